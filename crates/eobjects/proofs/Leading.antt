@@ -1,10 +1,14 @@
 -- What calls come to that enter no method.
 use Rattle.std.proofs.Common.{◌≡◌, List, [], ◌∷◌, length, get_or, true, false, cond, refl, sym, ap, ◌∙◌, subst, arith}
-use Rattle.std.specs.Prelude.{codes}
+use Rattle.std.specs.Prelude.{codes, ℤ, Option, IfSome}
 use Rattle.std.specs.Str.{bytes_eq}
 use Rattle.ids.specs.declared.names.PromId.{PromId}
 use Rattle.kernele.specs.Tree.{Name}
-use Rattle.values.specs.Data.{Val, Vals, no_vals, and_val}
+use Rattle.std.specs.Option.{option_map}
+use Rattle.std.proofs.lemmas.Option.{IfSome_then}
+use Rattle.values.specs.Data.{Val, int, Vals, no_vals, and_val}
+use Rattle.values.specs.Replies.{data_reply, value_given}
+use Rattle.values.proofs.Tables.{value_is_given}
 use Rattle.values.specs.View.{val_of, vals_of}
 use Rattle.values.specs.declared.value.Value.{Value}
 use Rattle.sends.specs.Vats.{Vat}
@@ -13,6 +17,7 @@ use Rattle.erules.specs.Doings.{given_by, behind, resolver_end, resolver_out}
 use Rattle.erules.specs.At.{At}
 use Rattle.erules.specs.Outcomes.{End}
 use Rattle.erules.specs.Rules.{Target, gives, uses, no_such_method, resolver_target}
+use Rattle.eobjects.specs.Making.{GivesForOne}
 use Rattle.eobjects.specs.View.{Comes, gave, used, Led}
 
 -- less is said of what a call led to
@@ -58,3 +63,7 @@ pub one_value : (xs : List Value) (x : Value) → length xs ≡ 1 → x ≡ get_
 one_value [] x one is = absurd (omega arith)
 one_value (y ∷ []) x one is = ap (λ (z : Value). and_val (val_of z) no_vals) (sym is)
 one_value (y ∷ z ∷ zs) x one is = absurd (omega arith)
+
+-- a verb on an integer gives a value for the only argument, which is one too
+pub for_one : (r : Option Value) (x y p q : ℤ) {u : Val} (verb : Name) {vs : Vals} → u ≡ int p → vs ≡ and_val (int q) no_vals → option_map val_of r ≡ value_given (data_reply (int x) verb (and_val (int y) no_vals)) → x ≡ p → y ≡ q → IfSome r (λ v. GivesForOne u verb vs (val_of v))
+for_one r x y p q verb on for h f g = IfSome_then r (value_is_given r _ h) (λ v e. (int q, for, (λ j. data_reply ((on ∙ ap int (sym f)) j) verb (and_val (int (sym g j)) no_vals)) ∙ e))

@@ -9,6 +9,7 @@ mod Sent
 mod Missing
 mod Staying
 mod OnData
+mod AtHand
 mod Leading
 mod Waiting
 mod Targets

@@ -14,6 +14,8 @@ use Rattle.values.specs.View.{vals_of}
 use Rattle.values.specs.declared.value.Value.{Value}
 use Rattle.erules.specs.Rules.{as_many, method_in}
 use Rattle.erules.specs.Fits.{FindsMethod}
+use Rattle.eobjects.specs.Finding.{FindsForCount}
+use Rattle.erules.proofs.Captures.{method_not, method_other}
 use Rattle.erules.proofs.Patterns.{as_many-true, as_many-false}
 
 counted : (ps : List Pattern) (vs : List Value) (b : Bool) → nat_eq (length ps) (length vs) ≡ b → as_many ps (vals_of vs) ≡ b
@@ -69,7 +71,7 @@ found_case k ks verb vs i m true h e is later =
 found_case k ks verb vs i m false h e is later = next_case k ks verb vs i m (position_in (methods_of_codes ks) verb (length vs)) h refl e is later
 
 -- at the position of the first method with this verb and as many parameters is the one that a call finds
-pub found_there : (ms : List MethodCode) (verb : Name) (vs : List Value) (i : ℕ) (m : MethodCode) → position_in (methods_of_codes ms) verb (length vs) ≡ Some i → m ≡ get_or ms i m → FindsMethod ms verb vs (Some m)
+found_there : (ms : List MethodCode) (verb : Name) (vs : List Value) (i : ℕ) (m : MethodCode) → position_in (methods_of_codes ms) verb (length vs) ≡ Some i → m ≡ get_or ms i m → FindsMethod ms verb vs (Some m)
 found_there [] verb vs i m e is = absurd (cc)
 found_there (k ∷ ks) verb vs i m e is = found_case k ks verb vs i m (has k verb vs) refl e is (λ j p q. found_there ks verb vs j m p q)
 
@@ -83,14 +85,27 @@ neither false (Some j) e = absurd (cc)
 neither false None e = (refl, refl)
 
 -- where there is no such method a call finds none
-pub found_nowhere : (ms : List MethodCode) (verb : Name) (vs : List Value) → position_in (methods_of_codes ms) verb (length vs) ≡ None → None ≡ method_in (methods_of_codes ms) verb (vals_of vs)
+found_nowhere : (ms : List MethodCode) (verb : Name) (vs : List Value) → position_in (methods_of_codes ms) verb (length vs) ≡ None → None ≡ method_in (methods_of_codes ms) verb (vals_of vs)
 found_nowhere [] verb vs e = refl
 found_nowhere (k ∷ ks) verb vs e =
     let none = neither (has k verb vs) (position_in (methods_of_codes ks) verb (length vs)) e in
     found_nowhere ks verb vs none.1 ∙ sym (first_or k ks verb vs false none.0)
 
-pub finds_none : (ms : List MethodCode) (verb : Name) (vs : List Value) → None ≡ method_in (methods_of_codes ms) verb (vals_of vs) → FindsMethod ms verb vs None
+finds_none : (ms : List MethodCode) (verb : Name) (vs : List Value) → None ≡ method_in (methods_of_codes ms) verb (vals_of vs) → FindsMethod ms verb vs None
 finds_none ms verb vs e = record { method = e; count = tt; fits = tt }
+
+-- a method with another number of parameters is not the one that is sought
+pub method_many : (rest others : List MethodCode) (m : MethodCode) (verb : Name) (vs : List Value) → rest ≡ m ∷ others → (length vs ≡ length m.parameters.value.items → ⊥) → (b : Bool) → bytes_eq m.verb verb ≡ b
+    → method_in (methods_of_codes others) verb (vals_of vs) ≡ method_in (methods_of_codes rest) verb (vals_of vs)
+method_many rest others m verb vs e q true p = method_other rest others m verb vs e p q
+method_many rest others m verb vs e q false p = method_not rest others m verb vs e p
+
+-- so for whatever arguments there are so many of
+pub found_for : (ms : List MethodCode) (verb : Name) (count i : ℕ) (m : MethodCode) → position_in (methods_of_codes ms) verb count ≡ Some i → m ≡ get_or ms i m → FindsForCount ms verb count (Some m)
+found_for ms verb count i m e is = λ vs l. found_there ms verb vs i m (ap (position_in (methods_of_codes ms) verb) l ∙ e) is
+
+pub nowhere_for : (ms : List MethodCode) (verb : Name) (count : ℕ) → position_in (methods_of_codes ms) verb count ≡ None → FindsForCount ms verb count None
+nowhere_for ms verb count e = λ vs l. finds_none ms verb vs (found_nowhere ms verb vs (ap (position_in (methods_of_codes ms) verb) l ∙ e))
 
 -- a scan that has none left finds none
 pub none_left : (rest ms : List MethodCode) (verb : Name) (vs : List Value) → length rest ≡ 0 → method_in (methods_of_codes rest) verb (vals_of vs) ≡ method_in (methods_of_codes ms) verb (vals_of vs) → FindsMethod ms verb vs None

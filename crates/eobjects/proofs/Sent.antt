@@ -3,7 +3,7 @@ use Rattle.std.proofs.Common.{arith, ◌≡◌, ℕ, ◌+◌, ◌-◌, ◌<◌, 
 use Rattle.std.specs.Prelude.{codes}
 use Rattle.std.specs.Str.{bytes_eq}
 use Rattle.ids.specs.declared.names.EjId.{EjId}
-use Rattle.kernele.specs.Tree.{Name, Tree, call, none, and_then}
+use Rattle.kernele.specs.Tree.{Name, Tree, Trees, call, none, and_then}
 use Rattle.code.specs.View.{tree_of_code, trees_of_codes}
 use Rattle.code.specs.declared.code.Code.{Code}
 use Rattle.values.specs.Data.{Val, ejector, no_vals, and_val}
@@ -11,8 +11,8 @@ use Rattle.erules.specs.At.{At}
 use Rattle.erules.specs.Doings.{same_vat}
 use Rattle.erules.specs.Outcomes.{End, value, halt, values}
 use Rattle.erules.proofs.Steps.{runs_to}
-use Rattle.erules.specs.Rules.{on_ejector, if_own, callee_target, callee_read, target_of, called, gives, same_ejector, is_open, ejects, no_such_method, Ends, at_node, run_call_gives, args_none, args_next, args_halt}
-use Rattle.eobjects.specs.Leaves.{Leaf, Returns, sent}
+use Rattle.erules.specs.Rules.{on_ejector, if_own, callee_target, callee_read, target_of, called, gives, same_ejector, is_open, ejects, no_such_method, Ends, Runs, at_node, run_call_gives, args_none, args_next, args_halt}
+use Rattle.eobjects.specs.Leaves.{Leaf, Returns, SendsTo, sent}
 use Rattle.eobjects.proofs.Leaves.{leaf_ends}
 use Rattle.eobjects.proofs.OnData.{own_target, own_called}
 use Rattle.eobjects.proofs.Staying.{ends_vat}
@@ -30,16 +30,21 @@ ejector_called : (i : EjId) (verb : Name) (v : Val) (b : At) → same_vat i.vat 
 ejector_called i verb v b own = own_called (ejector i) verb (and_val v no_vals) b refl ∙ ap (λ q. callee_read (if_own q (on_ejector i)) (ejector i) verb (and_val v no_vals) b) own
 
 -- a call on an ejector, by how its argument ended
-sent_on : (a b : At) {k : ℕ} {r t : Tree} {verb : Name} {i : EjId} (o : End) → Leaf a r (ejector i) → same_vat i.vat a.vat ≡ true → bytes_eq verb (codes "run") ≡ true → 2 ≤ a.left → k < 1000 → Ends (k + 1) t (record a { left = a.left - 1 - 1 }) o b → Ends k (call r verb (and_then t none)) a (sent i b.opened o) b
-sent_on a b {k = k} {r = r} {verb = verb} {i = i} (value v) leaf own run two deep h =
+sends_on : (a b : At) {k : ℕ} {r t : Tree} {verb : Name} {i : EjId} (o : End) → Leaf a r (ejector i) → same_vat i.vat a.vat ≡ true → bytes_eq verb (codes "run") ≡ true → 1 ≤ a.left → k < 1000 → Ends (k + 1) t (record a { left = a.left - 1 }) o b → Runs k (call r verb (and_then t none)) a (sent i b.opened o) b
+sends_on a b {k = k} {r = r} {verb = verb} {i = i} (value v) leaf own run some deep h =
     let here : same_vat i.vat b.vat ≡ true = ap (λ w. same_vat i.vat w) (ends_vat h) ∙ own in
-    at_node (omega (arith, two)) (omega (arith, deep))
-    (runs_to (run_call_gives (leaf_ends a r (ejector i) (k + 1) (a.left - 1) leaf (omega (arith, two)) (omega (arith, deep))) (args_next h args_none)
+    runs_to (run_call_gives (leaf_ends a r (ejector i) (k + 1) a.left leaf (omega (arith, some)) (omega (arith, deep))) (args_next h args_none)
     (ejector_target i verb v b here run))
-    refl (sym (ejector_called i verb v b here)))
-sent_on a b {k = k} {r = r} {i = i} (halt s) leaf own run two deep h =
-    at_node (omega (arith, two)) (omega (arith, deep))
-    (run_call_gives (leaf_ends a r (ejector i) (k + 1) (a.left - 1) leaf (omega (arith, two)) (omega (arith, deep))) (args_halt h) refl)
+    refl (sym (ejector_called i verb v b here))
+sends_on a b {k = k} {r = r} {i = i} (halt s) leaf own run some deep h =
+    run_call_gives (leaf_ends a r (ejector i) (k + 1) a.left leaf (omega (arith, some)) (omega (arith, deep))) (args_halt h) refl
+
+pub call_sends : (a : At) {k : ℕ} {r : Tree} {verb : Name} {i : EjId} (args : Trees) → Leaf a r (ejector i) → same_vat i.vat a.vat ≡ true → bytes_eq verb (codes "run") ≡ true → 1 ≤ a.left → k < 1000 → SendsTo k a i r verb args
+call_sends a {k = k} {r = r} {verb = verb} {i = i} args leaf own run some deep = λ arg one o b h. subst (λ ts. Runs k (call r verb ts) a (sent i b.opened o) b) (sym one) (sends_on a b o leaf own run some deep h)
+
+-- and a node of such a call
+sent_on : (a b : At) {k : ℕ} {r t : Tree} {verb : Name} {i : EjId} (o : End) → Leaf a r (ejector i) → same_vat i.vat a.vat ≡ true → bytes_eq verb (codes "run") ≡ true → 2 ≤ a.left → k < 1000 → Ends (k + 1) t (record a { left = a.left - 1 - 1 }) o b → Ends k (call r verb (and_then t none)) a (sent i b.opened o) b
+sent_on a b o leaf own run two deep h = at_node (omega (arith, two)) (omega (arith, deep)) (sends_on (record a { left = a.left - 1 }) b o leaf own run (omega (arith, two)) deep h)
 
 -- such a call on code
 pub call_returns : (a : At) {k : ℕ} {r : Tree} {x : Code} {es : List Code} {verb : Name} {i : EjId} (j : EjId) → x ∷ [] ≡ es → Leaf a r (ejector i) → same_ejector j i ≡ true → same_vat i.vat a.vat ≡ true → bytes_eq verb (codes "run") ≡ true → 2 ≤ a.left → k < 1000 → Returns k a j (call r verb (trees_of_codes es)) (tree_of_code x)

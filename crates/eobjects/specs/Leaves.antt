@@ -41,6 +41,10 @@ abbrev pub sent : EjId → List EjId → End → End
 sent i is (value v) = ejects (is_open i is) i v
 sent i is (halt h) = halt h
 
+-- a call on an ejector with one argument: a step on, it ends as that argument ends, and there
+abbrev pub SendsTo : ℕ → At → EjId → Tree → Name → Trees → Type 0
+SendsTo k a i receiver verb args = (arg : Tree) → args ≡ and_then arg none → (o : End) (b : At) → Ends (k + 1) arg (record a { left = a.left - 1 }) o b → Runs k (call receiver verb args) a (sent i b.opened o) b
+
 -- a tree calls an ejector that is the same as this one, with one argument: two steps on, it ends as that argument ends, and there
 abbrev pub Returns : ℕ → At → EjId → Tree → Tree → Type 0
 Returns k a j t arg = (i : EjId) × (same_ejector j i ≡ true) × ((o : End) (b : At) → Ends (k + 1) arg (record a { left = a.left - 2 }) o b → Ends k t a (sent i b.opened o) b)

@@ -3,7 +3,9 @@ use Rattle.std.specs.Prelude.{◌≡◌, List, [], Option}
 use Rattle.ids.specs.declared.names.ObjId.{ObjId}
 use Rattle.kernele.specs.Tree.{Name, Trees, Methods}
 use Rattle.kernele.specs.declared.tree.Pattern.{Pattern}
-use Rattle.values.specs.Data.{Val, Vals}
+use Rattle.values.specs.Data.{Val, Vals, no_vals, and_val}
+use Rattle.values.specs.Data as reply
+use Rattle.values.specs.Replies.{data_reply}
 use Rattle.heap.specs.State.{Nouns, Plain}
 use Rattle.post.specs.Delivery.{Handler}
 use Rattle.erules.specs.At.{At}
@@ -36,6 +38,10 @@ DefinesObject p ms a o b = (o ≡ object_end (capture_of p ms a) a) × (b ≡ wi
 -- a when with this block and this handler captures what it names, and is made on a value
 abbrev pub DefinesWhen : Trees → Option Handler → Val → At → End → At → Type 0
 DefinesWhen block handler v a o b = (o ≡ when_end block handler (value v) a) × (b ≡ when_made block handler (value v) a)
+
+-- a verb gives this value on data, for the only one of these arguments
+abbrev pub GivesForOne : Val → Name → Vals → Val → Type 0
+GivesForOne u verb args v = (m : Val) × (args ≡ and_val m no_vals) × (data_reply u verb (and_val m no_vals) ≡ reply.gives v)
 
 -- a call on an end leads so far
 abbrev pub CallsEnd : Val → Name → Vals → At → Target → At → Type 0

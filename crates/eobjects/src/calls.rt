@@ -1,7 +1,7 @@
 // Calls: what they lead to, and how a method is entered and left.
-ghost use Rattle.std.specs.Prelude.{◌≡◌, ◌≤◌, [], codes, length};
+ghost use Rattle.std.specs.Prelude.{◌≡◌, ◌≤◌, [], IfSome, codes, length};
 ghost use Rattle.values.specs.View.{val_of, vals_of};
-ghost use Rattle.eobjects.specs.Making.{CallsEnd};
+ghost use Rattle.eobjects.specs.Making.{CallsEnd, GivesForOne};
 ghost use Rattle.erules.specs.Answered.{OnStop};
 ghost use Rattle.erules.specs.Doings.{same_vat};
 ghost use Rattle.erules.specs.Outcomes.{halt, thrown, values};
@@ -19,13 +19,14 @@ use erules::end::Stop;
 use erules::entry::Entry;
 use erules::escapes::call_ejector;
 use erules::halting::throw_made;
-use erules::local::Local;
+use erules::local::{Local, let_go};
 use erules::working::Working;
 use heap::state::Noun;
 use ids::names::{EjId, ObjId, VatNo};
 use ids::text::Text;
 use std::mem;
 use std::sync::Arc;
+use values::calls::call_integers;
 use values::value::Value;
 use values::verb::Verb;
 
@@ -63,8 +64,26 @@ pub fn call_target(
     ensures { OnTarget result into.new w.new (λ t b. (t ≡ target_of (val_of receiver.old) verb.now (values (vals_of args.old)) (at w.old))
         × (b ≡ called (val_of receiver.old) verb.now (values (vals_of args.old)) (at w.old))) }
 {
+    if let Some(given) = called_on_integer(receiver, verb, args) {
+        *into = given;
+        return Ok(None);
+    }
     take_end(w, receiver)?;
     call_end(w, receiver, verb, args, into)
+}
+
+/// The value of a call on an integer with another one, if it gives one.
+#[inline(always)]
+fn called_on_integer(receiver: &Value, verb: &Verb, args: &[Value]) -> Option<Value>
+    ensures { IfSome result (λ v. GivesForOne (val_of receiver.now) verb.now (vals_of args.now) (val_of v)) }
+{
+    if args.len() != 1 {
+        return None;
+    }
+    match (receiver, &args[0]) {
+        (Value::Int(x), Value::Int(y)) => call_integers(*x, verb, *y),
+        _ => None,
+    }
 }
 
 /// What a call on an end leads to.
@@ -125,6 +144,7 @@ fn not_near(w: &mut Working) -> Stop
 }
 
 /// Begins a method with what its object captured and with names of its own, in place of those of the caller.
+#[inline(always)]
 pub fn enter_method(w: &mut Working, captured: Option<Arc<Vec<Noun>>>, nouns: Vec<Local>) -> Caller
     ensures captured { captured_in result.captured ≡ captured_in w.old.captured }
     ensures older { result.older ≡ w.old.older }
@@ -187,7 +207,7 @@ pub(crate) fn empty_frame(w: &mut Working) -> Vec<Local>
 {
     match w.spare.pop() {
         Some(mut frame) => {
-            frame.clear();
+            let_go(&mut frame, 0);
             frame
         }
         None => Vec::new(w.alloc),
@@ -195,6 +215,7 @@ pub(crate) fn empty_frame(w: &mut Working) -> Vec<Local>
 }
 
 /// Goes back to the caller's names, and keeps the method's frame for another one.
+#[inline(always)]
 pub fn leave_method(w: &mut Working, caller: Caller)
     ensures place { at w.new ≡ record (at w.old) { nouns = names_in (captured_in caller.captured) caller.older caller.nouns.items; own_scope = caller.own_scope } }
     ensures halt { w.new.halt ≡ w.old.halt }
@@ -202,7 +223,7 @@ pub fn leave_method(w: &mut Working, caller: Caller)
     let mut frame = mem::replace(&mut w.nouns, caller.nouns);
     let _ = replace_captured(w, caller.captured, caller.older);
     w.own_scope = caller.own_scope;
-    frame.clear();
+    let_go(&mut frame, 0);
     // Where there is no memory to keep it, it is dropped.
     let _ = w.spare.push(frame);
 }

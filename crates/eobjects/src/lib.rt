@@ -5,6 +5,7 @@
 #![tactic(auto)]
 
 pub mod calls;
+pub mod direct;
 mod growing;
 pub mod nouns;
 pub mod objects;

@@ -1,5 +1,5 @@
 // Nouns: what they stand for, and how they are bound, declared and assigned.
-ghost use Rattle.std.specs.Prelude.{◌≡◌, ◌<◌, IfOk, IfSome, OnOk, Some, length};
+ghost use Rattle.std.specs.Prelude.{◌≡◌, ◌<◌, IfOk, IfSome, OnOk, Some, false, length};
 ghost use Rattle.std.specs.Option.{option_map};
 ghost use Rattle.values.specs.Replies.{items_in};
 ghost use Rattle.values.specs.View.{val_of, vals_of};
@@ -194,10 +194,19 @@ pub fn bind(w: &mut Working, name: &Text, binding: Binding) -> Result<(), AllocE
     if w.own_scope {
         w.draft.bind_top(name.share()?, binding)
     } else {
-        let name = Snapshot::of(name);
-        w.nouns.push(Local { name, binding })?;
-        Ok(())
+        bind_local(w, name, binding)
     }
+}
+
+/// Binds a name in a scope that is not the script's own.
+#[inline(always)]
+pub fn bind_local(w: &mut Working, name: &Text, binding: Binding) -> Result<(), AllocError>
+    requires { w.old.own_scope ≡ false }
+    ensures { OnOk result (at w.new ≡ binding_of name.now (bind_of binding) (at w.old)) }
+{
+    let name = Snapshot::of(name);
+    w.nouns.push(Local { name, binding })?;
+    Ok(())
 }
 
 /// Makes a variable that holds this value, or abandons a turn that has made too many.

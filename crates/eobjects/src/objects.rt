@@ -4,7 +4,8 @@ ghost use Rattle.std.specs.Option.{option_copied};
 ghost use Rattle.code.specs.Frames.{only_names, captured_names_of, all_placed, fits_methods};
 ghost use Rattle.code.specs.Index.{Indexes, index_in, index_fits};
 ghost use Rattle.heap.specs.Names.{names_of};
-ghost use Rattle.erules.specs.Fits.{frame_at, FindsMethod, ObjectFits};
+ghost use Rattle.erules.specs.Fits.{frame_at, ObjectFits};
+ghost use Rattle.eobjects.specs.Finding.{FindsForCount};
 ghost use Rattle.scopes.specs.Scope.{name_of};
 ghost use Rattle.kernele.specs.Tree.{Name};
 ghost use Rattle.code.specs.View.{methods_of_codes};
@@ -214,7 +215,7 @@ fn method_entry(
     ensures entry { IfOk result (λ e. EntersMethod id (plain_of object.now) verb.now (vals_of args.old) e) }
     ensures kept { IfOk result (λ e. IfNone e (args.new ≡ args.old)) }
 {
-    match find_method(object, verb, args)? {
+    match find_method(object, verb, args.len())? {
         Some(method) => {
             let captured = share_captured(&object.captured)?;
             let body = Arc::try_clone(&method.body)?;
@@ -231,7 +232,9 @@ fn method_entry(
 
 /// What an object captured, shared, if it captured anything.
 #[inline(always)]
-fn share_captured(captured: &Arc<Vec<Noun>>) -> Result<Option<Arc<Vec<Noun>>>, AllocError>
+pub(crate) fn share_captured(
+    captured: &Arc<Vec<Noun>>,
+) -> Result<Option<Arc<Vec<Noun>>>, AllocError>
     ensures { IfOk result (λ c. captured_in c ≡ captured.now.value.items) }
 {
     if captured.is_empty() {
@@ -241,18 +244,19 @@ fn share_captured(captured: &Arc<Vec<Noun>>) -> Result<Option<Arc<Vec<Noun>>>, A
     }
 }
 
-/// The method with this verb and as many parameters as there are arguments: among many it is looked up, among few sought.
-fn find_method<'a>(
+/// The method with this verb and so many parameters: among many it is looked up, among few sought.
+#[inline(always)]
+pub(crate) fn find_method<'a>(
     object: &'a Plain,
     verb: &Verb,
-    args: &[Value],
+    count: usize,
 ) -> Result<Option<&'a MethodCode>, AllocError>
-    ensures { IfOk result (λ method. FindsMethod object.now.methods.value.items verb.now args.now (option_copied method)) }
+    ensures { IfOk result (λ method. FindsForCount object.now.methods.value.items verb.now count (option_copied method)) }
 {
     let methods = object.methods.as_slice();
     match &object.index {
-        Some(index) => look_up_method(methods, index, verb, args),
-        None => Ok(scan_methods(methods, verb, args)),
+        Some(index) => look_up_method(methods, index, verb, count),
+        None => Ok(scan_methods(methods, verb, count)),
     }
 }
 
@@ -261,28 +265,25 @@ fn look_up_method<'a>(
     methods: &'a [MethodCode],
     index: &MethodIndex,
     verb: &Verb,
-    args: &[Value],
+    count: usize,
 ) -> Result<Option<&'a MethodCode>, AllocError>
     requires { Indexes index.now (methods_of_codes methods.now) }
-    ensures { IfOk result (λ method. FindsMethod methods.now verb.now args.now (option_copied method)) }
+    ensures { IfOk result (λ method. FindsForCount methods.now verb.now count (option_copied method)) }
 {
-    match index.find(verb, args.len())? {
+    match index.find(verb, count)? {
         Some(position) => Ok(Some(&methods[position])),
         None => Ok(None),
     }
 }
 
 /// The method that is found by looking at one after another.
-fn scan_methods<'a>(
-    methods: &'a [MethodCode],
-    verb: &Verb,
-    args: &[Value],
-) -> Option<&'a MethodCode>
-    ensures { FindsMethod methods.now verb.now args.now (option_copied result) }
+#[inline(always)]
+fn scan_methods<'a>(methods: &'a [MethodCode], verb: &Verb, count: usize) -> Option<&'a MethodCode>
+    ensures { FindsForCount methods.now verb.now count (option_copied result) }
 {
     let mut rest = methods;
     while let Some((method, others)) = rest.split_first() {
-        if method.verb.as_str() == verb.text().as_str() && args.len() == method.parameters.len() {
+        if count == method.parameters.len() && method.verb.as_str() == verb.text().as_str() {
             return Some(method);
         }
         rest = others;
@@ -314,7 +315,11 @@ fn method_nouns(
 
 /// Adds what a pattern names.
 #[inline(always)]
-fn name_value(nouns: &mut Vec<Local>, pattern: &Pattern, value: Value) -> Result<(), AllocError>
+pub(crate) fn name_value(
+    nouns: &mut Vec<Local>,
+    pattern: &Pattern,
+    value: Value,
+) -> Result<(), AllocError>
     ensures { OnOk result ((ns : Nouns) → locals_after ns nouns.new.items ≡ named pattern.now (val_of value) (locals_after ns nouns.old.items)) }
 {
     match pattern {

@@ -189,7 +189,7 @@ fn run_quickly(
 
 /// The value of a call on integers at hand, if it gives one.
 #[inline(always)]
-fn called(w: &Working, e: &Code) -> Option<Value>
+pub(crate) fn called(w: &Working, e: &Code) -> Option<Value>
     requires { fits_at (at w.now) e.now }
     ensures { IfSome result (λ v. AtHand (at w.now) (tree_of_code e.now) 3 (val_of v)) }
 {

@@ -1,12 +1,12 @@
 // Values that an Escape's own ejector is given by an item of its block: they end the Escape with nothing on its way.
-ghost use Rattle.std.specs.Prelude.{◌≡◌, ◌≤◌, IfSome};
+ghost use Rattle.std.specs.Prelude.{◌≡◌, ◌≤◌, IfSome, length};
 ghost use Rattle.kernele.specs.Tree.{call};
 ghost use Rattle.code.specs.View.{tree_of_code, trees_of_codes};
 ghost use Rattle.code.specs.Frames.{fits_all, place_in};
 ghost use Rattle.values.specs.Data.{ejector as ejector_value};
-ghost use Rattle.erules.specs.Fits.{fits_at, frame_at, frame_behind};
+ghost use Rattle.erules.specs.Fits.{all_fit_at, fits_at, frame_at, frame_behind};
 ghost use Rattle.erules.specs.View.{at};
-ghost use Rattle.eobjects.specs.Leaves.{GivesAtHand, Leaf, Returns};
+ghost use Rattle.eobjects.specs.Leaves.{GivesAtHand, Leaf, Returns, SendsTo};
 
 use crate::quick::peek;
 use code::code::{Code, Place};
@@ -57,6 +57,33 @@ fn given<'a>(
     }
     if ejector.cmp(&called).is_eq() && verb.text().as_str() == "run" {
         Some(&args[0])
+    } else {
+        None
+    }
+}
+
+/// The ejector that a call gives one value, where the ejector is of the vat and at hand, and there is a step for what the call
+/// is made on.
+#[inline(always)]
+pub fn ejector_at_hand(
+    w: &Working,
+    receiver: &Code,
+    verb: &Verb,
+    args: &[Code],
+    level: u32,
+) -> Option<EjId>
+    requires fits { fits_at (at w.now) receiver.now × fits_all w.now.own_scope (frame_behind (at w.now) receiver.now) args.now }
+    ensures steps { IfSome result (λ i. 1 ≤ w.now.steps) }
+    ensures one { IfSome result (λ i. length args.now ≡ 1) }
+    ensures fits { IfSome result (λ i. all_fit_at (at w.now) args.now) }
+    ensures sends { IfSome result (λ i. SendsTo level (at w.now) i (tree_of_code receiver.now) verb.now (trees_of_codes args.now)) }
+{
+    if w.steps == 0 || level >= DEEPEST || args.len() != 1 {
+        return None;
+    }
+    let called = ejector_at(w, receiver)?;
+    if called.vat == here(w) && verb.text().as_str() == "run" {
+        Some(called)
     } else {
         None
     }

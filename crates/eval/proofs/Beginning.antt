@@ -1,10 +1,13 @@
--- Nodes that do not run.
-use Rattle.std.proofs.Common.{◌≡◌, ℕ, ◌<◌, subst, sym}
+-- Nodes that do not run, and blocks in which there is nothing to run.
+use Rattle.std.proofs.Common.{arith, ◌≡◌, ℕ, ◌<◌, List, [], ◌∷◌, length, subst, sym}
 use Rattle.kernele.specs.Tree.{Tree}
+use Rattle.code.specs.View.{trees_of_codes}
+use Rattle.code.specs.declared.code.Code.{Code}
+use Rattle.values.specs.Data.{null}
 use Rattle.erules.specs.At.{At}
 use Rattle.erules.specs.Answered.{OnStop}
-use Rattle.erules.specs.Outcomes.{Halt, halt, abandoned, budget_spent, too_deep}
-use Rattle.erules.specs.Rules.{begun, Ends, at_budget, at_depth}
+use Rattle.erules.specs.Outcomes.{Halt, value, halt, abandoned, budget_spent, too_deep}
+use Rattle.erules.specs.Rules.{begun, Ends, at_budget, at_depth, Block, in_block, items_none}
 use Rattle.erules.specs.declared.end.Stop.{Stop}
 use Rattle.erules.specs.declared.end.Stop.TheVariants as stop
 use Rattle.erules.specs.declared.working.Working.{Working}
@@ -21,3 +24,8 @@ no_steps stop.Halted w k t a none p = ends_as p.0 p.1 (at_budget none)
 pub no_level : (s : Stop) (w : Working) (k : ℕ) (t : Tree) (a : At) → 0 < a.left → 1000 < k → OnStop s w (λ h b. (h ≡ abandoned too_deep) × (b ≡ begun a)) → OnStop s w (λ h b. Ends k t a (halt h) b)
 no_level stop.Memory w k t a some deep p = tt
 no_level stop.Halted w k t a some deep p = ends_as p.0 p.1 (at_depth some deep)
+
+-- a block with no items
+pub block_none : {k : ℕ} (xs : List Code) (a : At) → length xs ≡ 0 → Block k (trees_of_codes xs) a (value null) a
+block_none [] a none = in_block items_none
+block_none (x ∷ xs) a none = absurd (omega (arith, none))

@@ -29,6 +29,8 @@ use Rattle.erules.proofs.Opened.{taking_opened}
 use Rattle.erules.proofs.Doings.{called_works}
 use Rattle.erules.proofs.Steps.{runs_to, args_as}
 use Rattle.erules.proofs.Ejectors.{opened_truncated}
+use Rattle.eobjects.specs.Direct.{EnteredOrNot, IsEntered}
+use Rattle.eobjects.specs.declared.direct.Entered.{Entered}
 use Rattle.eval.specs.Leading.{Leads}
 
 -- what a method's block does, where the caller's names come back behind it
@@ -106,3 +108,16 @@ call_leads (Err stop.Halted) into w v verb u h = led_there v verb u h
 -- a call whose arguments are halted
 pub call_halts : {k : ℕ} {ts : Trees} {a b : At} (v : Val) (verb : Name) (h : Halt) → Args k ts a (halted h) b → Led (Leads k ts v verb a) (halt h) b
 call_halts {b = b} v verb h u = (gives (halt h), b, record { gather = halted h; behind = b; args = u; target = refl; place = refl }, gave)
+
+-- whether a call entered a method is known
+pub entered_so : (m : Option Entered) {k : ℕ} (e : Entered) (t : Tree) (a b : At) → m ≡ Some e → EnteredOrNot m k t a b → IsEntered e k t a b
+entered_so m {k = k} e t a b is h = subst (λ m. EnteredOrNot m k t a b) is h
+
+pub entered_not : (m : Option Entered) (k : ℕ) (t : Tree) (a b : At) → m ≡ None → EnteredOrNot m k t a b → b ≡ a
+entered_not m k t a b is h = subst (λ m. EnteredOrNot m k t a b) is h
+
+-- a call that entered a method ends as the method's block does, once its caller's names are back
+pub call_at_hand_over : {k : ℕ} {r s : Code} {verb : Name} {xs ys items : List Code} {o : End} (e : Entered) {a b d z : At} → r ≡ s → xs ≡ ys → items ≡ e.body.value.items → IsEntered e k (call (tree_of_code r) verb (trees_of_codes xs)) a b → Items (k + 1) null (trees_of_codes items) b o d
+    → z ≡ record d { nouns = names_in (captured_in e.caller.captured) e.caller.older e.caller.nouns.items; own_scope = e.caller.own_scope } → Runs k (call (tree_of_code s) verb (trees_of_codes ys)) a o z
+call_at_hand_over {k = k} {o = o} e {b = b} {d = d} same args body method items place =
+    runs_to (call_as same args (method.runs o d (subst (λ us. Items (k + 1) null (trees_of_codes us) b o d) body items))) refl (place ∙ (λ i. record d { nouns = method.names i; own_scope = method.own_scope i }))

@@ -1,5 +1,5 @@
 -- An Escape's block, of which an item returns a value.
-use Rattle.std.proofs.Common.{◌≡◌, ℕ, ◌+◌, ◌-◌, ◌<◌, List, ◌∷◌, get_or, drop, length, cond, true, refl, sym, ap, ◌∙◌, subst}
+use Rattle.std.proofs.Common.{◌≡◌, ℕ, ◌+◌, ◌-◌, ◌<◌, List, [], ◌∷◌, get_or, drop, length, cond, true, refl, sym, ap, ◌∙◌, subst}
 use Rattle.ids.specs.declared.names.EjId.{EjId}
 use Rattle.kernele.specs.Tree.{Tree}
 use Rattle.code.specs.View.{tree_of_code, trees_of_codes}
@@ -9,7 +9,9 @@ use Rattle.erules.specs.At.{At}
 use Rattle.erules.specs.Outcomes.{End, Halt, value, halt, ejected}
 use Rattle.erules.specs.Rules.{same_ejector, is_open, ejects, escape_end, next_ejector, escaping, Ends, Items}
 use Rattle.erules.proofs.Opened.{ends_opened}
-use Rattle.erules.proofs.Steps.{items_no_more}
+use Rattle.erules.proofs.Steps.{items_no_more, only_one}
+use Rattle.std.specs.declared.vec.Vec.{Vec}
+use Rattle.std.specs.declared.alloc.Global.{Global}
 use Rattle.eobjects.specs.Leaves.{Returns, sent}
 use Rattle.eval.specs.Escaping.{IsNewest, Escapes}
 
@@ -40,3 +42,7 @@ item_returns {k = k} xs {x = x} {a = a} {b = b} {j = j} {o = o} h e newest retur
 -- an Escape ends as its block ended, where the place is known otherwise
 pub escapes_to : (j : EjId) (block : End → At → Type 0) {o p : End} {a b : At} → block o a → p ≡ escape_end j o → b ≡ a → Escapes j block p b
 escapes_to j block {o = o} r e f = (o, subst (block o) (sym f) r, e)
+
+-- the only argument of a call, where its row is known by its slice
+pub alone : {xs : List Code} {v u : Vec Code Global} {x : Code} → length xs ≡ 1 → xs ≡ u.items → v ≡ u → x ≡ get_or v.items 0 x → (x ∷ []) ≡ xs
+alone {x = x} one slice same is = only_one _ x one (is ∙ ap (λ v. get_or v.items 0 x) same ∙ ap (λ ys. get_or ys 0 x) (sym slice))

@@ -21,19 +21,20 @@ ghost use Rattle.erules.specs.declared.working.TheConstants.{DEEPEST};
 use crate::eval::{eval_args, eval_item, eval_items, eval_part};
 use code::code::Code;
 use eobjects::calls::{call_target, enter_method, leave_method};
-use eobjects::nouns::bind;
+use eobjects::direct::{Entered, enter_at_hand};
+use eobjects::nouns::bind_local;
 use eobjects::quick::quick_value;
-use eobjects::returns::returned;
+use eobjects::returns::{ejector_at_hand, returned};
 use erules::blocks::{enter, leave};
 use erules::end::Stop;
 use erules::entry::Entry;
-use erules::escapes::{close_escape, end_escape, open_escape};
+use erules::escapes::{close_escape, eject, end_escape, open_escape};
 use erules::working::Working;
 use heap::state::Binding;
 use ids::names::EjId;
 use ids::text::Text;
-use std::slice;
 use std::sync::Arc;
+use std::{mem, slice};
 use values::value::Value;
 use values::verb::Verb;
 
@@ -64,6 +65,58 @@ pub(crate) fn eval_call(
 #[cycle(evaluate)]
 #[inline(never)]
 fn eval_any_call(
+    w: &mut Working,
+    receiver: &Arc<Code>,
+    verb: &Verb,
+    args: &Arc<Vec<Code>>,
+    level: u32,
+    into: &mut Value,
+) -> Result<(), Stop>
+    requires level { level ≤ DEEPEST }
+    requires fits { fits_at (at w.old) receiver.now.value × fits_all w.old.own_scope (frame_behind (at w.old) receiver.now.value) args.now.value.items }
+    ensures { OnEnd result into.new w.new (Runs level (call (tree_of_code receiver.now.value) verb.now (trees_of_codes args.now.value.items)) (at w.old)) }
+{
+    match enter_at_hand(w, receiver, verb, args, level)? {
+        Some(entered) => {
+            let Entered { body, caller } = entered;
+            let answer = eval_items(w, &body, level + 1, into);
+            leave_method(w, caller);
+            answer
+        }
+        None => eval_other_call(w, receiver, verb, args, level, into),
+    }
+}
+
+/// A call that enters no method at once. It stands apart, so that one that does needs little of the stack.
+#[cycle(evaluate)]
+#[inline(never)]
+fn eval_other_call(
+    w: &mut Working,
+    receiver: &Arc<Code>,
+    verb: &Verb,
+    args: &Arc<Vec<Code>>,
+    level: u32,
+    into: &mut Value,
+) -> Result<(), Stop>
+    requires level { level ≤ DEEPEST }
+    requires fits { fits_at (at w.old) receiver.now.value × fits_all w.old.own_scope (frame_behind (at w.old) receiver.now.value) args.now.value.items }
+    ensures { OnEnd result into.new w.new (Runs level (call (tree_of_code receiver.now.value) verb.now (trees_of_codes args.now.value.items)) (at w.old)) }
+{
+    match ejector_at_hand(w, receiver, verb, args, level) {
+        Some(ejector) => {
+            w.steps -= 1;
+            eval_part(w, &args[0], level + 1, into)?;
+            let value = mem::replace(into, Value::Null);
+            Err(eject(w, ejector, value))
+        }
+        None => eval_far_call(w, receiver, verb, args, level, into),
+    }
+}
+
+/// A call whose parts are not all at hand.
+#[cycle(evaluate)]
+#[inline(never)]
+fn eval_far_call(
     w: &mut Working,
     receiver: &Arc<Code>,
     verb: &Verb,
@@ -147,6 +200,7 @@ pub(crate) fn eval_escape(
 
 /// Evaluates an Escape's block, in whose own scope a name stands for its ejector, and ends the Escape.
 #[cycle(evaluate)]
+#[inline(always)]
 fn eval_naming(
     w: &mut Working,
     name: &Text,
@@ -161,7 +215,7 @@ fn eval_naming(
     ensures { OnEnd result into.new w.new (Escapes ejector (Taking level (pattern.Name name.now) (ejector_value ejector) (trees_of_codes items.now) (at w.old))) }
 {
     let outer = enter(w);
-    bind(w, name, Binding::Fixed(Value::Ejector(ejector)))?;
+    bind_local(w, name, Binding::Fixed(Value::Ejector(ejector)))?;
     let answer = eval_returning(w, ejector, items, level, into);
     leave(w, outer);
     answer
@@ -169,6 +223,7 @@ fn eval_naming(
 
 /// Evaluates the items of an Escape's block in order, and ends the Escape. What one of them returns is its value at once.
 #[cycle(evaluate)]
+#[inline(always)]
 fn eval_returning(
     w: &mut Working,
     ejector: EjId,

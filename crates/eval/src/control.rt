@@ -212,6 +212,10 @@ pub(crate) fn eval_block(
     requires fits { fits_all false (frame_at (at w.old)) items.now }
     ensures { OnEnd result into.new w.new (Block level (trees_of_codes items.now) (at w.old)) }
 {
+    if items.is_empty() {
+        *into = Value::Null;
+        return Ok(());
+    }
     let outer = enter(w);
     let answer = eval_items(w, items, level, into);
     leave(w, outer);

@@ -10,35 +10,35 @@ use Rattle.erules.specs.Outcomes.{halt, halted, value, values, reply_end}
 use Rattle.erules.specs.Answered.{OnEnd}
 use Rattle.erules.specs.Doings.{behind, given_by, pair_end, pair_out, promise_pair, same_end, same_read, sent_at, sent_end}
 use Rattle.erules.specs.Locals.{captured_in}
-use Rattle.erules.specs.View.{at, halt_of}
+use Rattle.erules.specs.View.{at, halt_of, opened_of}
 use Rattle.eobjects.specs.View.{Led, OnEntry}
 use Rattle.eval.specs.Escaping.{Escapes}
 use Rattle.eval.specs.Leading.{Leads}
 use Rattle.code.specs.View.{methods_of_codes}
-use Rattle.kernele.specs.Tree.{list_tree}
+use Rattle.kernele.specs.Tree.{call, list_tree}
 use Rattle.eval.specs.Sides.{taken_at, taken_end}
-use Rattle.erules.specs.Rules.{begun, noun_end, noun_read, sought, object_end, with_object, capture_of, capturing, Ends, Runs, Args, Items, Block, Taking, at_node, Needs, needs, escape_end, choice_of, ends, listing_of, unlisted, run_null, run_bool, run_int, run_text, run_noun, run_call_receiver, run_list, run_same_left, run_same, goes, run_hide, run_if_goes, run_if_ends, run_while_again, run_while_halts, run_while_done, run_while_ends, run_for_ends, run_try, run_try_caught, run_object, run_send_receiver, run_send, run_when, run_when_catch, run_new_promise, when_end, when_made, args_halt}
-use Rattle.erules.proofs.Answering.{ends_weaker, ends_on, handed_on, ends_over, of_halted}
+use Rattle.erules.specs.Rules.{ejects, is_open, begun, noun_end, noun_read, sought, object_end, with_object, capture_of, capturing, Ends, Runs, Args, Items, Block, Taking, at_node, Needs, needs, escape_end, choice_of, ends, listing_of, unlisted, run_null, run_bool, run_int, run_text, run_noun, run_call_receiver, run_list, run_same_left, run_same, goes, run_hide, run_if_goes, run_if_ends, run_while_again, run_while_halts, run_while_done, run_while_ends, run_for_ends, run_try, run_try_caught, run_object, run_send_receiver, run_send, run_when, run_when_catch, run_new_promise, when_end, when_made, args_halt}
+use Rattle.erules.proofs.Answering.{stop_weaker, ends_weaker, ends_on, handed_on, ends_over, of_halted}
 use Rattle.erules.proofs.Steps.{node, child, end_taken, slice_of, runs_as, runs_to, ends_to, args_as, args_begin, args_pushed, args_more, args_no_more, args_end, args_done, only_one, one_arg, items_more, items_no_more, items_end, blocks, taking, block_end, taking_end, each_more, each_no_more, each_end, next_round}
 use Rattle.values.specs.Data.{bool, ejector, null}
 use Rattle.eval.proofs.Choosing.{chosen, truth_there, wanted}
 use Rattle.eval.proofs.Repeating.{for_runs}
-use Rattle.eval.proofs.Beginning.{no_steps, no_level}
+use Rattle.eval.proofs.Beginning.{no_steps, no_level, block_none}
 use Rattle.eval.proofs.Unwanted.{all_done, done_then, some_over, to_the_end}
-use Rattle.eval.proofs.Entered.{Enters, call_leads, call_halts, entered, call_as, call_came, call_entered, on_method, on_none, as_many, escape_over}
+use Rattle.eval.proofs.Entered.{Enters, call_leads, call_halts, entered, call_as, call_at_hand_over, entered_so, entered_not, call_came, call_entered, on_method, on_none, as_many, escape_over}
 use Rattle.erules.proofs.Scopes.{truncated}
 use Rattle.erules.proofs.Added.{goes_add, block_stays, taking_stays}
 use Rattle.erules.proofs.Fitting.{fits_then, all_fit_then, chosen_fits, repeated_fits, parts_fit, block_fits, entry_fits, round_fits, fits_from}
 use Rattle.code.proofs.Fitting.{fits-Call, fits-List, fits-Hide, fits-If, fits-While, fits-For, fits-Try, fits-Object, fits-Escape, fits-Send, fits-When, fits-WhenCatch}
-use Rattle.code.specs.Frames.{only_names}
+use Rattle.code.specs.Frames.{only_names, fits_all}
 use Rattle.scopes.specs.Scope.{name_of}
 use Rattle.heap.specs.State.{frame_of}
-use Rattle.erules.specs.Fits.{fits_at, all_fit_at}
+use Rattle.erules.specs.Fits.{fits_at, all_fit_at, frame_behind}
 use Rattle.erules.proofs.Grown.{round_grow}
 use Rattle.erules.proofs.Paid.{args_paid, ends_paid}
 use Rattle.eval.proofs.Promised.{captures_then, handler_there, still_promised}
 use Rattle.erules.proofs.Spent.{condition_less, block_left}
-use Rattle.eval.proofs.Returning.{newest_stays, newest_begun, item_returns, escapes_to}
+use Rattle.eval.proofs.Returning.{newest_stays, newest_begun, item_returns, alone, escapes_to}
 use Rattle.eval.proofs.Sides.{runs_right, halts_right, right_fits, right_placed, side_of}
 use Rattle.eval.proofs.+evaluate.Goals as goal
 
@@ -202,22 +202,66 @@ eval::eval_item-returns-in_ok-set-in-Some t c = ends_to c.in-Some.ensures.ends (
 pub calling::eval_call-returns-in-Some : goal.calling::eval_call-returns-in-Some
 calling::eval_call-returns-in-Some t c = call_as c.deref.ensures (slice_of c.deref-3.ensures.value c.deref-2.ensures) c.in-Some.ensures.runs
 
-pub calling::eval_any_call-returns-in_err-eval_part : goal.calling::eval_any_call-returns-in_err-eval_part
-calling::eval_any_call-returns-in_err-eval_part t c = ends_on c.from_residual.result c.in_err-eval_part.field-0.0 c.args.into.now c.eval_part.new.w (Ends (c.args.level + 1) _ _) (Runs c.args.level _ _) c.from_residual.ensures.1 c.in_err-eval_part.ensures (λ h b r. run_call_receiver (child c.deref.ensures r))
-
-pub calling::eval_any_call-returns-in_err-entry : goal.calling::eval_any_call-returns-in_err-entry
-calling::eval_any_call-returns-in_err-entry t c = handed_on c.from_residual-in_err-entry.result c.in_err-entry.field-0.0 c.eval_target.new.w (λ u b. Runs c.args.level _ _ (value (val_of c.eval_target.new.into)) b) (λ h b. Led (Leads (c.args.level + 1) _ _ _ _) (halt h) b) (λ h b. Runs c.args.level _ _ (halt h) b) c.from_residual-in_err-entry.ensures.1 c.in_err-entry.ensures (λ h b r. call_came (slice_of c.deref-3.ensures.value c.deref-2.ensures) (child c.deref.ensures c.in_ok-eval_part.ensures) r)
+pub calling::eval_any_call-eval_items-answer-requires : goal.calling::eval_any_call-eval_items-answer-requires
+calling::eval_any_call-eval_items-answer-requires t c =
+    let tree = call (tree_of_code c.deref.result.now) c.args.verb.now (trees_of_codes c.deref-3.result.now) in
+    let method = entered_so _ c.in-Some.entered tree (at c.args.w.now) (at c.enter_at_hand.new.w) c.in-Some.is c.in_ok-entered.ensures in
+    (search rules, (search rules, subst (all_fit_at (at c.enter_at_hand.new.w)) (sym (slice_of c.deref-in-Some-2.ensures.value c.deref-in-Some.ensures)) method.fits))
 
 pub calling::eval_any_call-returns-in-Some : goal.calling::eval_any_call-returns-in-Some
 calling::eval_any_call-returns-in-Some t c =
+    let tree = call (tree_of_code c.deref.result.now) c.args.verb.now (trees_of_codes c.deref-3.result.now) in
+    let method = entered_so _ c.in-Some.entered tree (at c.args.w.now) (at c.enter_at_hand.new.w) c.in-Some.is c.in_ok-entered.ensures in
+    ends_over c.eval_items-answer.result c.eval_items-answer.new.into c.eval_items-answer.new.w c.leave_method.new.w (Items (c.args.level + 1) _ _ _) (Runs c.args.level _ _) c.leave_method.ensures.halt c.eval_items-answer.ensures (λ o r.
+    call_at_hand_over c.in-Some.entered c.deref.ensures (slice_of c.deref-3.ensures.value c.deref-2.ensures) (slice_of c.deref-in-Some-2.ensures.value c.deref-in-Some.ensures) method r c.leave_method.ensures.place)
+
+pub calling::eval_any_call-eval_other_call-requires : goal.calling::eval_any_call-eval_other_call-requires
+calling::eval_any_call-eval_other_call-requires t c =
+    let tree = call (tree_of_code c.deref.result.now) c.args.verb.now (trees_of_codes c.deref-3.result.now) in
+    let same = entered_not _ c.args.level tree (at c.args.w.now) (at c.enter_at_hand.new.w) c.in-None.is c.in_ok-entered.ensures in
+    (search rules, (search rules, subst (λ (a : At). fits_at a c.args.receiver.now.value × fits_all a.own_scope (frame_behind a c.args.receiver.now.value) c.args.args.now.value.items) (sym same) c.requires.fits))
+
+pub calling::eval_any_call-returns-in-None : goal.calling::eval_any_call-returns-in-None
+calling::eval_any_call-returns-in-None t c =
+    let tree = call (tree_of_code c.deref.result.now) c.args.verb.now (trees_of_codes c.deref-3.result.now) in
+    let same = entered_not _ c.args.level tree (at c.args.w.now) (at c.enter_at_hand.new.w) c.in-None.is c.in_ok-entered.ensures in
+    let whole = call (tree_of_code c.args.receiver.now.value) c.args.verb.now (trees_of_codes c.args.args.now.value.items) in
+    ends_weaker c.eval_other_call.result c.eval_other_call.new.into c.eval_other_call.new.w (Runs c.args.level whole (at c.enter_at_hand.new.w)) (Runs c.args.level whole (at c.args.w.now)) c.eval_other_call.ensures
+    (λ o b r. subst (λ (a : At). Runs c.args.level whole a o b) same r)
+
+pub calling::eval_other_call-eval_part-requires : goal.calling::eval_other_call-eval_part-requires
+calling::eval_other_call-eval_part-requires t c =
+    let one = alone c.in-Some.ensures.one (slice_of c.deref-3.ensures.value c.deref-2.ensures) c.deref-in-Some.ensures c.index.ensures in
+    (search rules, (subst (all_fit_at (at c.args.w.now)) (sym one) c.in-Some.ensures.fits).0)
+
+pub calling::eval_other_call-returns-in_err-eval_part-in-Some : goal.calling::eval_other_call-returns-in_err-eval_part-in-Some
+calling::eval_other_call-returns-in_err-eval_part-in-Some t c =
+    let one = alone c.in-Some.ensures.one (slice_of c.deref-3.ensures.value c.deref-2.ensures) c.deref-in-Some.ensures c.index.ensures in
+    ends_on c.from_residual.result c.in_err-eval_part-in-Some.field-0.0 c.eval_part.new.into c.eval_part.new.w (Ends (c.args.level + 1) _ _) (Runs c.args.level _ _) c.from_residual.ensures.1 c.in_err-eval_part-in-Some.ensures (λ h b r.
+    call_as c.deref.ensures (slice_of c.deref-3.ensures.value c.deref-2.ensures) (c.in-Some.ensures.sends _ (ap trees_of_codes (sym one)) (halt h) b r))
+
+pub calling::eval_other_call-returns-in_ok-eval_part-in-Some : goal.calling::eval_other_call-returns-in_ok-eval_part-in-Some
+calling::eval_other_call-returns-in_ok-eval_part-in-Some t c =
+    let one = alone c.in-Some.ensures.one (slice_of c.deref-3.ensures.value c.deref-2.ensures) c.deref-in-Some.ensures c.index.ensures in
+    stop_weaker c.eject.result c.eject.new.w _ (λ h b. Runs c.args.level _ _ (halt h) b) (λ h b p.
+    runs_to (call_as c.deref.ensures (slice_of c.deref-3.ensures.value c.deref-2.ensures) (c.in-Some.ensures.sends _ (ap trees_of_codes (sym one)) (value (val_of c.eval_part.new.into)) (at c.eval_part.new.w) c.in_ok-eval_part-in-Some.ensures)) (p.0 ∙ ap (λ v. ejects (is_open c.in-Some.ejector (opened_of c.eval_part.new.w.opened.items)) c.in-Some.ejector (val_of v)) c.replace-value.ensures.value) p.1) c.eject.ensures.end
+
+pub calling::eval_far_call-returns-in_err-eval_part : goal.calling::eval_far_call-returns-in_err-eval_part
+calling::eval_far_call-returns-in_err-eval_part t c = ends_on c.from_residual.result c.in_err-eval_part.field-0.0 c.args.into.now c.eval_part.new.w (Ends (c.args.level + 1) _ _) (Runs c.args.level _ _) c.from_residual.ensures.1 c.in_err-eval_part.ensures (λ h b r. run_call_receiver (child c.deref.ensures r))
+
+pub calling::eval_far_call-returns-in_err-entry : goal.calling::eval_far_call-returns-in_err-entry
+calling::eval_far_call-returns-in_err-entry t c = handed_on c.from_residual-in_err-entry.result c.in_err-entry.field-0.0 c.eval_target.new.w (λ u b. Runs c.args.level _ _ (value (val_of c.eval_target.new.into)) b) (λ h b. Led (Leads (c.args.level + 1) _ _ _ _) (halt h) b) (λ h b. Runs c.args.level _ _ (halt h) b) c.from_residual-in_err-entry.ensures.1 c.in_err-entry.ensures (λ h b r. call_came (slice_of c.deref-3.ensures.value c.deref-2.ensures) (child c.deref.ensures c.in_ok-eval_part.ensures) r)
+
+pub calling::eval_far_call-returns-in-Some : goal.calling::eval_far_call-returns-in-Some
+calling::eval_far_call-returns-in-Some t c =
     ends_weaker c.eval_method.result c.eval_method.new.into c.eval_method.new.w (Enters (c.args.level + 1) _ _ _) (Runs c.args.level _ _) c.eval_method.ensures (λ o b h. call_entered (slice_of c.deref-3.ensures.value c.deref-2.ensures) (child c.deref.ensures c.in_ok-eval_part.ensures) (on_method _ c.eval_target.new.into (Leads (c.args.level + 1) _ _ _ _) _ c.in-Some.is c.in_ok-entry.ensures) refl h)
 
-pub calling::eval_any_call-returns : goal.calling::eval_any_call-returns
-calling::eval_any_call-returns t c =
+pub calling::eval_far_call-returns : goal.calling::eval_far_call-returns
+calling::eval_far_call-returns t c =
     call_came (slice_of c.deref-3.ensures.value c.deref-2.ensures) (child c.deref.ensures c.in_ok-eval_part.ensures) (on_none _ c.eval_target.new.into (Leads (c.args.level + 1) _ _ _ _) _ c.in-None.is c.in_ok-entry.ensures)
 
-pub calling::eval_any_call-eval_target-requires : goal.calling::eval_any_call-eval_target-requires
-calling::eval_any_call-eval_target-requires t c = (search rules, (search rules, all_fit_then (slice_of c.deref-3.ensures.value c.deref-2.ensures) (child c.deref.ensures c.in_ok-eval_part.ensures) c.requires.fits.1))
+pub calling::eval_far_call-eval_target-requires : goal.calling::eval_far_call-eval_target-requires
+calling::eval_far_call-eval_target-requires t c = (search rules, (search rules, all_fit_then (slice_of c.deref-3.ensures.value c.deref-2.ensures) (child c.deref.ensures c.in_ok-eval_part.ensures) c.requires.fits.1))
 
 pub calling::eval_target-eval_part-requires : goal.calling::eval_target-eval_part-requires
 calling::eval_target-eval_part-requires t c = (search rules, (subst (all_fit_at (at c.args.w.now)) (sym (only_one c.args.args.now _ (search rules) c.index-args-0.is)) c.requires.fits).0)
@@ -253,10 +297,13 @@ calling::eval_escape-returns t c =
     escape_over c.args.name.now _ c.args.w.now c.eval_naming-answer.new.w (as_many c.args.w.now.opened c.len-outer.ensures) c.in_ok-ejector.ensures.named c.in_ok-ejector.ensures.place refl
     (ap trees_of_codes (slice_of c.deref-2.ensures.value c.deref.ensures)) r.1 c.close_escape.ensures.place r.2)
 
+pub calling::eval_naming-bind_local-requires : goal.calling::eval_naming-bind_local-requires
+calling::eval_naming-bind_local-requires t c = ap (λ (a : At). a.own_scope) c.enter-outer.ensures.place
+
 pub calling::eval_naming-returns : goal.calling::eval_naming-returns
 calling::eval_naming-returns t c =
     ends_over c.eval_returning-answer.result c.eval_returning-answer.new.into c.eval_returning-answer.new.w c.leave.new.w (Escapes c.args.ejector (Items c.args.level _ _ _)) (Escapes c.args.ejector (Taking c.args.level (pattern.Name c.args.name.now) (ejector c.args.ejector) (trees_of_codes c.args.items.now) (at c.args.w.now))) c.leave.ensures.halt c.eval_returning-answer.ensures (λ o r.
-    (r.0, taking_end (pattern.Name c.args.name.now) (ejector c.args.ejector) c.args.w.now c.eval_returning-answer.new.w c.enter-outer.ensures.names c.enter-outer.ensures.own c.enter-outer.ensures.place c.in_ok-bind.ensures r.1 c.leave.ensures.place, r.2))
+    (r.0, taking_end (pattern.Name c.args.name.now) (ejector c.args.ejector) c.args.w.now c.eval_returning-answer.new.w c.enter-outer.ensures.names c.enter-outer.ensures.own c.enter-outer.ensures.place c.in_ok-bind_local.ensures r.1 c.leave.ensures.place, r.2))
 
 pub calling::eval_returning-eval_returned-requires : goal.calling::eval_returning-eval_returned-requires
 calling::eval_returning-eval_returned-requires t c = (search rules, c.in-Some.ensures.fits)
@@ -477,3 +524,6 @@ control::eval_block-returns t c = ends_over c.eval_items-answer.result c.eval_it
 
 pub control::eval_taking-returns : goal.control::eval_taking-returns
 control::eval_taking-returns t c = ends_over c.eval_items-answer.result c.eval_items-answer.new.into c.eval_items-answer.new.w c.leave.new.w (Items c.args.level _ _ _) (Taking c.args.level _ _ _ _) c.leave.ensures.halt c.eval_items-answer.ensures (λ o r. taking_end c.args.pattern.now (val_of c.args.value.now) c.args.w.now c.eval_items-answer.new.w c.enter-outer.ensures.names c.enter-outer.ensures.own c.enter-outer.ensures.place c.in_ok-match_pattern.ensures r c.leave.ensures.place)
+
+pub control::eval_block-returns-then-is_empty : goal.control::eval_block-returns-then-is_empty
+control::eval_block-returns-then-is_empty t c = block_none c.args.items.now (at c.args.w.now) (search rules)

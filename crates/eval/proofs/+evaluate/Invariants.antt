@@ -16,91 +16,97 @@ use Rattle.eval.proofs.+evaluate.Given as goal
 
 -- a level's rank: a node, its parts in order, a block of them, a block for each value, and the construct one level above
 abbrev pub decreases-eval::eval : goal.decreases-eval::eval
-decreases-eval::eval l = 8 * (1001 - l.level)
+decreases-eval::eval l = 9 * (1001 - l.level)
 
 abbrev pub decreases-eval::eval_part : goal.decreases-eval::eval_part
-decreases-eval::eval_part l = 8 * (1001 - l.level) + 1
+decreases-eval::eval_part l = 9 * (1001 - l.level) + 1
 
 abbrev pub decreases-eval::eval_item : goal.decreases-eval::eval_item
-decreases-eval::eval_item l = 8 * (1001 - l.level) + 2
+decreases-eval::eval_item l = 9 * (1001 - l.level) + 2
 
 abbrev pub decreases-eval::eval_args : goal.decreases-eval::eval_args
-decreases-eval::eval_args l = 8 * (1001 - l.level) + 2
+decreases-eval::eval_args l = 9 * (1001 - l.level) + 2
 
 abbrev pub decreases-eval::eval_items : goal.decreases-eval::eval_items
-decreases-eval::eval_items l = 8 * (1001 - l.level) + 3
+decreases-eval::eval_items l = 9 * (1001 - l.level) + 3
 
 abbrev pub decreases-control::run_items : goal.decreases-control::run_items
-decreases-control::run_items l = 8 * (1001 - l.level) + 4
+decreases-control::run_items l = 9 * (1001 - l.level) + 4
 
 abbrev pub decreases-control::run_block : goal.decreases-control::run_block
-decreases-control::run_block l = 8 * (1001 - l.level) + 5
+decreases-control::run_block l = 9 * (1001 - l.level) + 5
 
 abbrev pub decreases-control::eval_block : goal.decreases-control::eval_block
-decreases-control::eval_block l = 8 * (1001 - l.level) + 4
+decreases-control::eval_block l = 9 * (1001 - l.level) + 4
 
 abbrev pub decreases-control::eval_taking : goal.decreases-control::eval_taking
-decreases-control::eval_taking l = 8 * (1001 - l.level) + 4
+decreases-control::eval_taking l = 9 * (1001 - l.level) + 4
 
 abbrev pub decreases-control::eval_condition : goal.decreases-control::eval_condition
-decreases-control::eval_condition l = 8 * (1001 - l.level) + 2
+decreases-control::eval_condition l = 9 * (1001 - l.level) + 2
 
 abbrev pub decreases-control::eval_any_condition : goal.decreases-control::eval_any_condition
-decreases-control::eval_any_condition l = 8 * (1001 - l.level) + 1
+decreases-control::eval_any_condition l = 9 * (1001 - l.level) + 1
 
 abbrev pub decreases-calling::eval_returned : goal.decreases-calling::eval_returned
-decreases-calling::eval_returned l = 8 * (1001 - l.level) + 2
+decreases-calling::eval_returned l = 9 * (1001 - l.level) + 2
 
 abbrev pub decreases-calling::eval_returning : goal.decreases-calling::eval_returning
-decreases-calling::eval_returning l = 8 * (1001 - l.level) + 3
+decreases-calling::eval_returning l = 9 * (1001 - l.level) + 3
 
 abbrev pub decreases-calling::eval_naming : goal.decreases-calling::eval_naming
-decreases-calling::eval_naming l = 8 * (1001 - l.level) + 4
+decreases-calling::eval_naming l = 9 * (1001 - l.level) + 4
 
 abbrev pub decreases-calling::eval_method : goal.decreases-calling::eval_method
-decreases-calling::eval_method l = 8 * (1001 - l.level) + 4
+decreases-calling::eval_method l = 9 * (1001 - l.level) + 4
 
 abbrev pub decreases-calling::eval_target : goal.decreases-calling::eval_target
-decreases-calling::eval_target l = 8 * (1001 - l.level) + 4
+decreases-calling::eval_target l = 9 * (1001 - l.level) + 4
 
 abbrev pub decreases-calling::eval_call : goal.decreases-calling::eval_call
-decreases-calling::eval_call l = 8 * (1000 - l.level) + 7
+decreases-calling::eval_call l = 9 * (1000 - l.level) + 8
 
 abbrev pub decreases-calling::eval_any_call : goal.decreases-calling::eval_any_call
-decreases-calling::eval_any_call l = 8 * (1000 - l.level) + 6
+decreases-calling::eval_any_call l = 9 * (1000 - l.level) + 7
+
+abbrev pub decreases-calling::eval_other_call : goal.decreases-calling::eval_other_call
+decreases-calling::eval_other_call l = 9 * (1000 - l.level) + 6
+
+abbrev pub decreases-calling::eval_far_call : goal.decreases-calling::eval_far_call
+decreases-calling::eval_far_call l = 9 * (1000 - l.level) + 5
 
 abbrev pub decreases-calling::eval_escape : goal.decreases-calling::eval_escape
-decreases-calling::eval_escape l = 8 * (1000 - l.level) + 6
+decreases-calling::eval_escape l = 9 * (1000 - l.level) + 6
 
 abbrev pub decreases-eval::eval_right : goal.decreases-eval::eval_right
-decreases-eval::eval_right l = 8 * (1000 - l.level) + 6
+decreases-eval::eval_right l = 9 * (1000 - l.level) + 6
 
 abbrev pub decreases-eval::eval_list : goal.decreases-eval::eval_list
-decreases-eval::eval_list l = 8 * (1000 - l.level) + 6
+decreases-eval::eval_list l = 9 * (1000 - l.level) + 6
 
 abbrev pub decreases-eval::eval_same : goal.decreases-eval::eval_same
-decreases-eval::eval_same l = 8 * (1000 - l.level) + 6
+decreases-eval::eval_same l = 9 * (1000 - l.level) + 6
 
 abbrev pub decreases-sending::eval_send : goal.decreases-sending::eval_send
-decreases-sending::eval_send l = 8 * (1000 - l.level) + 6
+decreases-sending::eval_send l = 9 * (1000 - l.level) + 6
 
 abbrev pub decreases-sending::eval_when : goal.decreases-sending::eval_when
-decreases-sending::eval_when l = 8 * (1000 - l.level) + 6
+decreases-sending::eval_when l = 9 * (1000 - l.level) + 6
 
 abbrev pub decreases-sending::eval_when_catch : goal.decreases-sending::eval_when_catch
-decreases-sending::eval_when_catch l = 8 * (1000 - l.level) + 6
+decreases-sending::eval_when_catch l = 9 * (1000 - l.level) + 6
 
 abbrev pub decreases-control::eval_if : goal.decreases-control::eval_if
-decreases-control::eval_if l = 8 * (1000 - l.level) + 6
+decreases-control::eval_if l = 9 * (1000 - l.level) + 6
 
 abbrev pub decreases-control::eval_while : goal.decreases-control::eval_while
-decreases-control::eval_while l = 8 * (1000 - l.level) + 6
+decreases-control::eval_while l = 9 * (1000 - l.level) + 6
 
 abbrev pub decreases-control::eval_for : goal.decreases-control::eval_for
-decreases-control::eval_for l = 8 * (1000 - l.level) + 6
+decreases-control::eval_for l = 9 * (1000 - l.level) + 6
 
 abbrev pub decreases-control::eval_try : goal.decreases-control::eval_try
-decreases-control::eval_try l = 8 * (1000 - l.level) + 6
+decreases-control::eval_try l = 9 * (1000 - l.level) + 6
 
 -- what the rest gives, after the values so far, is what all give, and it fits
 abbrev pub invariant-eval::eval_args-loop-arg : goal.invariant-eval::eval_args-loop-arg

@@ -1,5 +1,4 @@
-use Rattle.std.proofs.Common.{rules}
 use Rattle.eobjects.proofs.calls.empty_frame.Goals as goal
 
 pub returns-in-Some-clause-empty : goal.returns-in-Some-clause-empty
-returns-in-Some-clause-empty c = search rules
+returns-in-Some-clause-empty c = c.let_go.ensures

@@ -1,23 +1,24 @@
-use Rattle.std.proofs.Common.{rules, ◌∙◌}
+use Rattle.std.proofs.Common.{◌≡◌, rules, arith, length, refl, sym, ◌∙◌}
 use Rattle.erules.proofs.Fitting.{first_fits, others_fit}
-use Rattle.erules.proofs.Captures.{method_here, method_not, method_other}
-use Rattle.eobjects.proofs.Methods.{none_left}
+use Rattle.erules.proofs.Captures.{method_here, method_not}
+use Rattle.eobjects.proofs.Methods.{method_many, none_left}
 use Rattle.eobjects.proofs.objects.scan_methods.Goals as goal
-use Rattle.eobjects.proofs.objects.scan_methods.Goals.{else-eq-via-then-eq+else-args-len, else-eq-via-else-eq}
+use Rattle.eobjects.proofs.objects.scan_methods.Goals.{else-count-len-via-then-count-len+else-eq, else-count-len-via-else-count-len}
 
-pub returns-then-args-len : goal.returns-then-args-len
-returns-then-args-len c = record {
-  method = method_here _ _ _ _ _ c.in-Some.ensures.cases.0 (search rules) (search rules) ∙ c.loop-method.invariant.0;
-  count = search rules;
+pub returns-then-eq : goal.returns-then-eq
+returns-then-eq c = λ vs e. record {
+  method = method_here _ _ _ _ vs c.in-Some.ensures.cases.0 (search rules) (e ∙ search rules) ∙ c.loop-method.invariant.0 vs e;
+  count = e ∙ search rules;
   fits = λ frame h. first_fits frame _ _ _ c.in-Some.ensures.cases.0 (c.loop-method.invariant.1 frame h);
 }
 
 pub loop-method-preserved : goal.loop-method-preserved
 loop-method-preserved c =
-    elim c.else-eq.branch [
-      | else-eq-via-then-eq+else-args-len w ↦ (method_other _ _ _ _ _ c.in-Some.ensures.cases.0 (search rules) (search rules) ∙ c.loop-method.invariant.0, λ frame h. others_fit frame _ _ _ c.in-Some.ensures.cases.0 (c.loop-method.invariant.1 frame h))
-      | else-eq-via-else-eq w ↦ (method_not _ _ _ _ c.args.args.now c.in-Some.ensures.cases.0 (search rules) ∙ c.loop-method.invariant.0, λ frame h. others_fit frame _ _ _ c.in-Some.ensures.cases.0 (c.loop-method.invariant.1 frame h))
+    let many : c.len.result ≡ length c.in-Some.method.now.parameters.value.items = search rules in
+    elim c.else-count-len.branch [
+      | else-count-len-via-then-count-len+else-eq w ↦ (λ vs e. method_not _ _ _ _ vs c.in-Some.ensures.cases.0 (search rules) ∙ c.loop-method.invariant.0 vs e, λ frame h. others_fit frame _ _ _ c.in-Some.ensures.cases.0 (c.loop-method.invariant.1 frame h))
+      | else-count-len-via-else-count-len w ↦ (λ vs e. method_many _ _ _ _ vs c.in-Some.ensures.cases.0 (λ same. w.if-count-len.false (sym e ∙ same ∙ sym many)) _ refl ∙ c.loop-method.invariant.0 vs e, λ frame h. others_fit frame _ _ _ c.in-Some.ensures.cases.0 (c.loop-method.invariant.1 frame h))
     ]
 
 pub returns : goal.returns
-returns c = none_left _ c.args.methods.now c.args.verb.now c.args.args.now c.in_default.ensures.cases c.loop-method.invariant.0
+returns c = λ vs e. none_left _ c.args.methods.now c.args.verb.now vs c.in_default.ensures.cases (c.loop-method.invariant.0 vs e)

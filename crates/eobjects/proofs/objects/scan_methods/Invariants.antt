@@ -1,14 +1,15 @@
-use Rattle.std.proofs.Common.{◌≡◌, length}
+use Rattle.std.proofs.Common.{◌≡◌, List, length}
 use Rattle.code.specs.Frames.{Frame, fits_methods}
 use Rattle.code.specs.View.{methods_of_codes}
 use Rattle.values.specs.View.{vals_of}
+use Rattle.values.specs.declared.value.Value.{Value}
 use Rattle.erules.specs.Rules.{method_in}
 use Rattle.eobjects.proofs.objects.scan_methods.Given as goal
 
 -- the methods that are left have what all have, and fit where all do
 abbrev pub invariant-loop-method : goal.invariant-loop-method
 invariant-loop-method l =
-    (method_in (methods_of_codes l.rest) l.verb (vals_of l.args) ≡ method_in (methods_of_codes l.fn.methods) l.verb (vals_of l.args))
+    ((vs : List Value) → length vs ≡ l.count → method_in (methods_of_codes l.rest) l.verb (vals_of vs) ≡ method_in (methods_of_codes l.fn.methods) l.verb (vals_of vs))
     × ((frame : Frame) → fits_methods frame l.fn.methods → fits_methods frame l.rest)
 
 abbrev pub decreases-loop-method : goal.decreases-loop-method
