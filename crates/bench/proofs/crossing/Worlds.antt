@@ -7,6 +7,8 @@ use Rattle.worldcells.specs.contracts.home.Home as home
 use Rattle.worldcells.specs.contracts.homes.Homes as homes
 use Rattle.worldcells.specs.contracts.record.CellRecord as cell_record
 use Rattle.worldcells.specs.contracts.world.World as world
+use Rattle.links.specs.contracts.followers.Followers as followers
+use Rattle.links.specs.contracts.places.Places as places
 use Rattle.journal.specs.contracts.entry.Entry as entry
 use Rattle.journal.specs.contracts.settled.Settled as settled
 use Rattle.undo.specs.contracts.undoing.Core as core
@@ -128,16 +130,44 @@ settled_row_sync = search (settled_sync, event_crosses, touched_crosses, text_cr
 
 pub ruleset settled_crosses = (settled_send, settled_sync, settled_row_send, settled_row_sync)
 
+pub places_send : IsSend (places.the_field).row
+places_send = search (sendable, crosses) depth 40
+
+pub places_row_send : IsSend places.the_row
+places_row_send = search (places_send, sendable, crosses) depth 40
+
+pub places_sync : IsSync (places.the_field).row
+places_sync = search (sendable, crosses) depth 40
+
+pub places_row_sync : IsSync places.the_row
+places_row_sync = search (places_sync, sendable, crosses) depth 40
+
+pub ruleset places_crosses = (places_send, places_sync, places_row_send, places_row_sync)
+
+pub followers_send : IsSend (followers.the_field).row
+followers_send = search (event_crosses, sendable, crosses) depth 40
+
+pub followers_row_send : IsSend followers.the_row
+followers_row_send = search (followers_send, event_crosses, sendable, crosses) depth 40
+
+pub followers_sync : IsSync (followers.the_field).row
+followers_sync = search (event_crosses, sendable, crosses) depth 40
+
+pub followers_row_sync : IsSync followers.the_row
+followers_row_sync = search (followers_sync, event_crosses, sendable, crosses) depth 40
+
+pub ruleset followers_crosses = (followers_send, followers_sync, followers_row_send, followers_row_sync)
+
 pub core_send : IsSend (core.the_field).row
-core_send = search (world_crosses, settled_crosses, entry_crosses, sendable, crosses) depth 40
+core_send = search (world_crosses, settled_crosses, entry_crosses, places_crosses, followers_crosses, sendable, crosses) depth 40
 
 pub core_row_send : IsSend core.the_row
-core_row_send = search (core_send, world_crosses, settled_crosses, entry_crosses, sendable, crosses) depth 40
+core_row_send = search (core_send, world_crosses, settled_crosses, entry_crosses, places_crosses, followers_crosses, sendable, crosses) depth 40
 
 pub core_sync : IsSync (core.the_field).row
-core_sync = search (world_crosses, settled_crosses, entry_crosses, sendable, crosses) depth 40
+core_sync = search (world_crosses, settled_crosses, entry_crosses, places_crosses, followers_crosses, sendable, crosses) depth 40
 
 pub core_row_sync : IsSync core.the_row
-core_row_sync = search (core_sync, world_crosses, settled_crosses, entry_crosses, sendable, crosses) depth 40
+core_row_sync = search (core_sync, world_crosses, settled_crosses, entry_crosses, places_crosses, followers_crosses, sendable, crosses) depth 40
 
 pub ruleset core_crosses = (core_send, core_sync, core_row_send, core_row_sync)
