@@ -76,7 +76,7 @@ fn check_undone(journal: Journal, names: &NameSet) -> Result<(), BookFault>
 }
 
 /// The events may be undone: all are in the journal, not settled and live, and so are all live events that came of them.
-fn check_undo(journal: Journal, names: &NameSet) -> Result<(), BookFault>
+fn check_undo(alloc: Global, journal: Journal, names: &NameSet) -> Result<(), BookFault>
     requires { IsJournal (items_of journal) }
     ensures open { OnOk result (NoneSettled names.now journal.entry) }
     ensures ok { OnOk result (undo_refusal (length journal.entry.settled.now) (lines_of (items_of journal.entry)) names.now ≡ None) }
@@ -84,7 +84,7 @@ fn check_undo(journal: Journal, names: &NameSet) -> Result<(), BookFault>
 {
     check_open(journal, names)?;
     check_live(journal, names)?;
-    match first_gap(journal, names) {
+    match first_gap(alloc, journal, names)? {
         Some(gap) => Err(BookFault::NotClosed(gap.event, gap.other)),
         None => Ok(()),
     }
@@ -199,7 +199,7 @@ impl Book {
     {
         let names = NameSet::new(self.alloc, events)?;
         let journal = self.core.journal();
-        check_undo(journal, &names)?;
+        check_undo(self.alloc, journal, &names)?;
         let positions = positions(self.alloc, journal, &names)?;
         self.core.prepare(self.alloc, &positions)?;
         self.core.undo(&positions);

@@ -17,8 +17,7 @@ use Rattle.journal.specs.declared.settled.Settled.{Settled}
 use Rattle.causality.specs.Journals.{NoneSettled}
 use Rattle.causality.specs.Names.{is_writer_in, wrote_last}
 use Rattle.causality.specs.Selections.{name_of, chosen, first_some, first_name, has_mark, first_marked, gap, places_from}
-use Rattle.causality.specs.Walks.{is_of, first_followed, parted, joins, joined_with, gathered, first_along, comes_back, missed, missed_at, first_met, unnamed, unexpected, crossed, crossed_at}
-use Rattle.causality.specs.declared.selection.Gap.{Gap}
+use Rattle.causality.specs.Walks.{is_of, joins, joined_with, gathered, first_along, comes_back, missed, missed_at, first_met, unnamed, unexpected, crossed, crossed_at}
 use Rattle.causality.proofs.Firsts.{some_past, none_each}
 use Rattle.causality.proofs.Indexing.{flipped}
 
@@ -74,18 +73,6 @@ module _ (names : List EventName) (all : List Item) where
   missed_past before (i ∷ ss) ys (h, live) =
       ap (λ b. option_or (cond (not b && is_of names i) (option_map (gap i.event.name) (missed names (causes_in all i) before)) None) (first_along (missed_at names all) (before ++ i ∷ []) (ss ++ ys))) h
       ∙ missed_past (before ++ i ∷ []) ss ys live ∙ ap (λ b. first_along (missed_at names all) b ys) (append_assoc before (i ∷ []) ss)
-
-pub parted_past : (names : List EventName) (ss ys : List Item) → AllByRecursion (λ i. is_of names i ≡ false) ss → parted names false (ss ++ ys) ≡ parted names false ys
-parted_past names [] ys none = refl
-parted_past names (i ∷ ss) ys (h, none) = ap (λ b. parted names b (ss ++ ys)) h ∙ parted_past names ss ys none
-
-pub followed_past : (names : List EventName) (ss ys : List Item) → AllByRecursion (λ i. is_of names i ≡ false) ss → first_followed names (ss ++ ys) ≡ first_followed names ys
-followed_past names [] ys none = refl
-followed_past names (i ∷ ss) ys (h, none) = first_past _ _ (is_of names i) h ∙ followed_past names ss ys none
-  where
-    first_past : (o p : Option Gap) (b : Bool) → b ≡ false → option_or (cond b o None) p ≡ p
-    first_past o p true e = cc
-    first_past o p false e = refl
 
 -- what joins
 none_wrote : (i : Item) → wrote_last [] i ≡ false

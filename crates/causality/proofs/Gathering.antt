@@ -45,7 +45,7 @@ use Rattle.causality.proofs.Placed.{bool_same, one_name, self_name, any_found, a
 use Rattle.causality.proofs.Writers.{any_or}
 use Rattle.causality.proofs.Telling.{Tells, journal_tells}
 
-false_by : (b : Bool) → (b ≡ true → ⊥) → b ≡ false
+pub false_by : (b : Bool) → (b ≡ true → ⊥) → b ≡ false
 false_by true h = absurd (h refl)
 false_by false h = refl
 

@@ -18,5 +18,8 @@ pub mod Pairs
 pub mod Redoing
 pub mod Telling
 pub mod Writers
-pub mod Unfollowed
 pub mod Gathering
+pub mod FirstOutside
+pub mod Parted
+pub mod LeastAnswer
+pub mod Outsiders

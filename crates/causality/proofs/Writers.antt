@@ -1,28 +1,16 @@
--- A set that has each entry that came right after a member has all that came of its members.
-use Rattle.std.proofs.Common.{◌≡◌, ◌∙◌, ℕ, Bool, true, false, cond, ◌&&◌, ◌||◌, not, List, [], ◌∷◌, ◌++◌, append-nil, append_assoc, map, reverse, Option, Some, is_some, refl, sym, ap, subst}
+-- Who has a member of a set as a cause is told by last writers.
+use Rattle.std.proofs.Common.{◌≡◌, ◌∙◌, ℕ, Bool, true, false, cond, ◌&&◌, ◌||◌, List, [], ◌∷◌, Option, Some, is_some, refl, sym, ap}
 use Rattle.std.specs.List.{list_any, AllByRecursion}
-use Rattle.std.proofs.lemmas.Bool.{both_ways, or_left, or_right, and_from, and_parts}
-use Rattle.std.proofs.lemmas.List.{reverse-append, reverse-reverse}
-use Rattle.std.proofs.lemmas.List.Sorted.{list_any-IsPermutation, IsPermutation-reverse}
-use Rattle.std.proofs.lemmas.List.Folds.{list_any-append}
+use Rattle.std.proofs.lemmas.Bool.{both_ways, or_left, or_right, and_parts}
 use Rattle.history.specs.Subject.{Laws, found, touches, meets}
-use Rattle.history.specs.Journal.{Entry, named, caused, live_set, Sound, Closed}
-use Rattle.history.specs.Chains.{wrote, last_writer, Linked, HasCells, Traced, Chained}
-use Rattle.history.proofs.Lists.{all_map, all_both, all_of, all_mapped, any_found, any_gives, any_same, any_none}
+use Rattle.history.specs.Journal.{Entry, named, caused, Closed}
+use Rattle.history.specs.Chains.{wrote, last_writer, Linked, HasCells, Traced}
+use Rattle.history.proofs.Lists.{all_map, all_both, all_of, any_gives, any_same, any_none}
 use Rattle.ids.specs.CellKeys.{same_key}
 use Rattle.ids.specs.declared.cells.CellKey.{CellKey}
-use Rattle.ids.specs.declared.names.EventName.{EventName}
 use Rattle.ids.proofs.CellKeys.{same_exact, same_self}
-use Rattle.journal.specs.Items.{Item}
-use Rattle.journal.specs.Lines.{plain, Line, line_of, lines_of, entries_in}
-use Rattle.journal.proofs.Touching.{any-map}
-use Rattle.causality.specs.Exact.{ClosedIn}
-use Rattle.causality.specs.Names.{is_writer_in, wrote_last}
-use Rattle.causality.specs.Selections.{numbers}
-use Rattle.causality.specs.Walks.{is_of, parts, parted}
-use Rattle.causality.proofs.Facts.{entry_at, same_entries}
-use Rattle.causality.proofs.Pairs.{Around, all_to_end}
-use Rattle.causality.proofs.Telling.{Tells}
+use Rattle.journal.specs.Lines.{plain}
+use Rattle.causality.specs.Names.{is_writer_in}
 
 -- entries without contents are told apart by the same keys
 pub plain_laws : Laws plain
@@ -51,14 +39,6 @@ any_and false p xs = any_none _ xs (all_of _ xs (λ a. refl))
 any_turned : {A B : Type 0} (r : A → B → Bool) (xs : List A) (ys : List B) → list_any (λ x. list_any (r x) ys) xs ≡ list_any (λ y. list_any (λ x. r x y) xs) ys
 any_turned r [] ys = sym (any_none _ ys (all_of _ ys (λ y. refl)))
 any_turned r (x ∷ xs) ys = ap (λ b. list_any (r x) ys || b) (any_turned r xs ys) ∙ sym (any_or (r x) (λ y. list_any (λ z. r z y) xs) ys)
-
-pub neither : (x y : Bool) → (x || y) ≡ false → (x ≡ false) × (y ≡ false)
-neither true y g = absurd (both_ways _ g refl)
-neither false y g = (refl, g)
-
-pub none_passes : {A : Type 0} (p : A → Bool) (xs : List A) → list_any p xs ≡ false → AllByRecursion (λ a. p a ≡ false) xs
-none_passes p [] h = tt
-none_passes p (x ∷ xs) h = let both = neither (p x) (list_any p xs) h in (both.0, none_passes p xs both.1)
 
 -- an entry wrote a cell where one of its writes is of it
 pub wrote_any : (k : CellKey) (ws : List (CellKey × Unit {0})) → is_some (found plain ws k) ≡ list_any (λ w. same_key w.0 k) ws
@@ -137,75 +117,3 @@ module _ (ns : List ℕ) (u : Entry plain → Bool) where
 -- the causes of a live entry are live
 pub live_causes : (e : Entry plain) (es : List (Entry plain)) → AllByRecursion (λ a. caused plain e a ≡ (a.live && meets plain a.foot e.foot)) es → AllByRecursion (λ a. caused plain e a ≡ true → a.live ≡ true) es
 live_causes e es h = all_map _ _ es (λ a same is. (and_parts a.live _ (sym same ∙ is)).0) h
-
--- no live entry outside a set came right after a member: the set is closed
-closed_by : (ns : List ℕ) (es : List (Entry plain)) → Chained plain es → Sound plain (live_set plain) es
-    → AllByRecursion (λ e. e.live ≡ true → list_any (λ p. is_writer_in ns p.1) e.lasts ≡ true → named plain ns e ≡ true) es → Closed plain (live_set plain) (named plain ns) es
-closed_by ns [] h s q = tt
-closed_by ns (e ∷ es) (h, hs) (s, ss) (q, qs) =
-    let older = closed_by ns es hs ss qs in (
-      λ live. all_map _ _ es (λ a found is cause. q live (sym (last_tells ns (live_set plain) e es h (live_causes e es (s live)) older) ∙ found (and_from _ _ is cause))) (any_found (λ a. named plain ns a && caused plain e a) es),
-      older,
-    )
-
--- the newest writer of some is no member where none of them is
-newest_outside : (ns : List ℕ) (k : CellKey) (t : Entry plain → Bool) (es : List (Entry plain)) → list_any (named plain ns) es ≡ false → is_writer_in ns (last_writer plain k t es) ≡ false
-newest_outside ns k t [] h = refl
-newest_outside ns k t (a ∷ es) h = let both = neither (named plain ns a) (list_any (named plain ns) es) h in by (t a && wrote plain k a) both.0 (newest_outside ns k t es both.1)
-  where
-    by : (b : Bool) → named plain ns a ≡ false → is_writer_in ns (last_writer plain k t es) ≡ false → is_writer_in ns (cond b (Some a.event.name.0) (last_writer plain k t es)) ≡ false
-    by true here rest = here
-    by false here rest = rest
-
--- so an entry with no member before it came right after none
-module _ (names : List EventName) (all : List Item) where
-  abbrev Begins : List Item → Item → List Item → Type 0
-  Begins older i newer = list_any (is_of names) older ≡ false → wrote_last (numbers names) i ≡ false
-
-  begins : (i : Item) (rs : List Item) → Traced plain (entry_at all i) (map (entry_at all) rs) → Begins (reverse rs) i []
-  begins i rs h none = any_none _ i.lasts (all_map _ _ i.lasts
-      (λ p last. ap (is_writer_in (numbers names)) last ∙ newest_outside (numbers names) p.0 (caused plain (entry_at all i)) (map (entry_at all) rs)
-      (any-map (entry_at all) (named plain (numbers names)) rs ∙ list_any-IsPermutation (is_of names) rs (reverse rs) (IsPermutation-reverse rs) ∙ none)) h.lasts)
-
-  around_last : (before xs : List Item) (i : Item) → Around Begins before xs → Begins (before ++ xs) i [] → Around Begins before (xs ++ i ∷ [])
-  around_last before [] i h last = (subst (λ is. Begins is i []) (append-nil before) last, tt)
-  around_last before (x ∷ xs) i (p, h) last = (p, around_last (before ++ x ∷ []) xs i h (subst (λ is. Begins is i []) (sym (append_assoc before (x ∷ []) xs)) last))
-
-  all_begin : (rs : List Item) → Chained plain (map (entry_at all) rs) → Around Begins [] (reverse rs)
-  all_begin [] h = tt
-  all_begin (i ∷ rs) (h, hs) = subst (Around Begins []) (sym (reverse-append (i ∷ []) rs)) (around_last [] (reverse rs) i (all_begin rs hs) (begins i rs h))
-
-  unparted : (before items : List Item) (b : Bool) → list_any (is_of names) before ≡ b → Around Begins before items → parted names b items ≡ false → AllByRecursion (λ i. parts names i ≡ false) items
-  unparted before [] b is h none = tt
-  unparted before (i ∷ items) b is (p, h) none =
-      let both = neither (b && parts names i) (parted names (b || is_of names i) items) none in (
-        here b is both.0,
-        unparted (before ++ i ∷ []) items (b || is_of names i) (list_any-append (is_of names) before (i ∷ []) ∙ ap (λ c. c || (is_of names i || false)) is ∙ ap (λ c. b || c) (or_nothing (is_of names i))) h both.1,
-      )
-    where
-      or_nothing : (c : Bool) → (c || false) ≡ c
-      or_nothing true = refl
-      or_nothing false = refl
-
-      here : (c : Bool) → list_any (is_of names) before ≡ c → (c && parts names i) ≡ false → parts names i ≡ false
-      here true e g = g
-      here false e g = ap (λ w. i.live && (w && not (is_of names i))) (p e) ∙ never i.live
-        where
-          never : (l : Bool) → (l && false) ≡ false
-          never true = refl
-          never false = refl
-
--- THE LEMMA: a set that no item parts is closed
-pub unparted_closed : (names : List EventName) (all : List Item) → Tells (lines_of all) → parted names false all ≡ false → ClosedIn names (lines_of all)
-unparted_closed names all h none = closed_by (numbers names) (entries_in (lines_of all)) h.chained h.lines_are.sound
-    (all_to_end (λ (l : Line). l.entry) (λ e. e.live ≡ true → list_any (λ p. is_writer_in (numbers names) p.1) e.lasts ≡ true → named plain (numbers names) e ≡ true) (lines_of all)
-    (all_mapped (line_of all) _ all (all_map _ _ all (λ i out. joined i.live (wrote_last (numbers names) i) (is_of names i) out) (unparted names all [] all false refl from_front none))))
-  where
-    from_front : Around (Begins names all) [] all
-    from_front = subst (Around (Begins names all) []) (reverse-reverse all) (all_begin names all (reverse all) (subst (Chained plain) (sym (same_entries all)) h.chained))
-
-    joined : (l w c : Bool) → (l && (w && not c)) ≡ false → l ≡ true → w ≡ true → c ≡ true
-    joined true true true h p q = refl
-    joined true true false h p q = cc
-    joined true false c h p q = absurd (both_ways _ refl q)
-    joined false w c h p q = absurd (both_ways _ refl p)

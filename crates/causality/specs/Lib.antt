@@ -4,4 +4,5 @@ pub mod Selections
 pub mod Names
 pub mod Walks
 pub mod Placed
+pub mod Parting
 pub mod Exact

@@ -1,13 +1,11 @@
 -- What the program finds by the places that a journal keeps of names.
-use Rattle.std.specs.Prelude.{ℕ, Bool, true, false, cond, not, ◌&&◌, List, map, Option, Some, None, min, nat_lt, slice_get}
+use Rattle.std.specs.Prelude.{ℕ, Bool, false, cond, not, ◌&&◌, List, map, Option, Some, None, min, nat_lt, slice_get}
 use Rattle.std.specs.Option.{option_map_or, option_and_then}
 use Rattle.std.specs.List.{fold, list_any}
 use Rattle.history.specs.Chains.{is_name}
 use Rattle.ids.specs.declared.names.EventName.{EventName}
 use Rattle.links.specs.Places.{place_of}
-use Rattle.links.specs.Followers.{followers_of}
 use Rattle.links.specs.declared.places.Places.{Places}
-use Rattle.links.specs.declared.followers.Followers.{Followers}
 use Rattle.journal.specs.Items.{Item}
 use Rattle.journal.specs.Links.{names_of, open_at}
 use Rattle.journal.specs.declared.entry.Mark.{Mark}
@@ -53,10 +51,6 @@ name_there items place = option_and_then (λ p. slice_get (names_of items) p) pl
 -- an event is live, not settled and outside a set
 abbrev pub is_outsider : List EventName → List Item → ℕ → Places → EventName → Bool
 is_outsider names opens settled places e = option_map_or (λ i. i.live && not (is_of names i)) (open_at opens settled (place_of places e)) false
-
--- the list of an event's followers names one that passes a test, or it is not kept
-abbrev pub may_be_followed : (EventName → Bool) → Followers → EventName → Bool
-may_be_followed test followers e = option_map_or (list_any test) (followers_of followers e) true
 
 -- an item follows an event, which was the last writer of a cell that it touched
 abbrev pub follows : ℕ → Item → Bool

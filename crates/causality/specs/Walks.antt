@@ -1,5 +1,5 @@
 -- What the program finds as it goes over items, of which it knows no causes.
-use Rattle.std.specs.Prelude.{◌&&◌, ◌||◌, ◌==◌, not, ℕ, Bool, false, cond, List, [], ◌∷◌, ◌++◌, filter, Option, Some, None}
+use Rattle.std.specs.Prelude.{◌&&◌, ◌||◌, ◌==◌, not, ℕ, Bool, cond, List, [], ◌∷◌, ◌++◌, filter, Option, Some, None}
 use Rattle.std.specs.Option.{option_map, option_or}
 use Rattle.history.specs.Journal.{is_in}
 use Rattle.ids.specs.declared.names.EventName.{EventName}
@@ -25,15 +25,6 @@ follower names a later = first_item (λ i. i.live && (not (is_of names i) && wro
 abbrev pub first_followed : List EventName → List Item → Option Gap
 first_followed names [] = None
 first_followed names (i ∷ later) = option_or (cond (is_of names i) (option_map (gap i.event.name) (follower names i later)) None) (first_followed names later)
-
--- an item parts a set: it is live, outside it, and a member was the last writer of a cell that it touched
-abbrev pub parts : List EventName → Item → Bool
-parts names i = i.live && (wrote_last (numbers names) i && not (is_of names i))
-
--- an item parts it; nothing does before its first member
-abbrev pub parted : List EventName → Bool → List Item → Bool
-parted names behind [] = false
-parted names behind (i ∷ items) = (behind && parts names i) || parted names (behind || is_of names i) items
 
 -- an item joins: it is the root, or it is live and one of those that have joined was the last writer of a cell that it touched
 abbrev pub joins : EventName → List ℕ → Item → Bool

@@ -4,6 +4,7 @@
 pub mod causes;
 pub mod cone;
 pub mod names;
+mod parting;
 mod returning;
 pub mod selection;
 pub mod theorems;

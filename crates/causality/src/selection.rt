@@ -10,14 +10,14 @@ ghost use Rattle.journal.specs.Journals.{items_of};
 ghost use Rattle.journal.specs.Lines.{lines_of};
 ghost use Rattle.causality.specs.Causes.{has_place, passes_at};
 ghost use Rattle.causality.specs.Journals.{IsJournal, NoneSettled};
-ghost use Rattle.causality.specs.Placed.{is_marked, is_as, place_if, lesser_place, least_place, name_there, is_outsider, may_be_followed};
+ghost use Rattle.causality.specs.Placed.{is_marked, is_as, place_if, lesser_place, least_place, name_there};
 ghost use Rattle.causality.specs.Selections as model;
-ghost use Rattle.causality.specs.Walks.{follower, first_followed};
 
 use crate::names::NameSet;
+use crate::parting::{least_gap, outsiders};
 use crate::returning::{first_crossed, first_missed};
 use ids::names::EventName;
-use journal::entry::{Entry, Mark, meets};
+use journal::entry::{Entry, Mark};
 use journal::journal::Journal;
 use std::alloc::{AllocError, Global};
 use std::collections::BTreeSet;
@@ -91,7 +91,7 @@ fn place_if(journal: Journal, event: EventName, asked: Asked) -> Option<usize>
 }
 
 /// The lesser of two places, where there are two.
-fn lesser_place(first: Option<usize>, second: Option<usize>) -> Option<usize>
+pub(crate) fn lesser_place(first: Option<usize>, second: Option<usize>) -> Option<usize>
     ensures { result ≡ lesser_place first second }
 {
     match (first, second) {
@@ -137,92 +137,20 @@ pub fn first_marked(journal: Journal, names: &NameSet, mark: Mark) -> Option<Eve
     first_asked(journal, names, Asked::Marked(mark))
 }
 
-/// The first of these entries that is live, outside the set, and touched what an earlier entry wrote.
-fn follower(later: &[Entry], names: &NameSet, entry: &Entry) -> Option<EventName>
-    ensures { result ≡ follower names.now (item_of entry.now) (map item_of later.now) }
-{
-    for other in later {
-        let name = other.event.name;
-        if other.mark == Mark::Live && !names.has(name) && meets(entry, other) {
-            return Some(name);
-        }
-    }
-    None
-}
-
-/// The first of the set with such an entry behind it, and that one.
-fn first_followed(entries: &[Entry], names: &NameSet) -> Option<Gap>
-    ensures { result ≡ first_followed names.now (map item_of entries.now) }
-{
-    for (position, entry) in entries.iter().enumerate() {
-        let event = entry.event.name;
-        if names.has(event) {
-            if let Some(other) = follower(&entries[position + 1..], names, entry) {
-                return Some(Gap { event, other });
-            }
-        }
-    }
-    None
-}
-
-/// Whether an event is live, not settled, and outside the set.
-fn is_outsider(journal: Journal, names: &NameSet, event: EventName) -> bool
-    ensures { result ≡ is_outsider names.now (map item_of journal.entry.entries.now) (length journal.entry.settled.now) journal.entry.places.now event }
-{
-    match journal.open_entry(event) {
-        Some(entry) => has_mark(entry, Mark::Live) && !names.has(entry.event.name),
-        None => false,
-    }
-}
-
-/// Whether one of these events is live, not settled, and outside the set.
-fn has_outsider(journal: Journal, names: &NameSet, events: &[EventName]) -> bool
-    ensures { result ≡ list_any (is_outsider names.now (map item_of journal.entry.entries.now) (length journal.entry.settled.now) journal.entry.places.now) events.now }
-{
-    for event in events {
-        if is_outsider(journal, names, *event) {
-            return true;
-        }
-    }
-    false
-}
-
-/// Whether a live event outside the set is listed with an event, or its list is not kept.
-fn may_be_followed(journal: Journal, names: &NameSet, event: EventName) -> bool
-    ensures { result ≡ may_be_followed (is_outsider names.now (map item_of journal.entry.entries.now) (length journal.entry.settled.now) journal.entry.places.now) journal.entry.followers.now event }
-{
-    match journal.followers.of(event) {
-        Some(followers) => has_outsider(journal, names, followers),
-        None => true,
-    }
-}
-
-/// Whether one of the set may be followed so.
-fn has_followed(journal: Journal, names: &NameSet) -> bool
-    ensures { result ≡ list_any (may_be_followed (is_outsider names.now (map item_of journal.entry.entries.now) (length journal.entry.settled.now) journal.entry.places.now) journal.entry.followers.now) names.now }
-{
-    let given = names.given();
-    for name in given {
-        if may_be_followed(journal, names, *name) {
-            return true;
-        }
-    }
-    false
-}
-
 /// Of a set that is in the journal and live: the first member of which a live event outside came, and the first such event.
-pub fn first_gap(journal: Journal, names: &NameSet) -> Option<Gap>
+pub fn first_gap(
+    alloc: Global,
+    journal: Journal,
+    names: &NameSet,
+) -> Result<Option<Gap>, AllocError>
     requires journal { IsJournal (items_of journal) }
     requires open { NoneSettled names.now journal }
     requires live { model.first_marked Mark.Undone names.now (lines_of (items_of journal)) ≡ None }
-    ensures { result ≡ model.first_gap names.now (lines_of (items_of journal.entry)) }
+    ensures { IfOk result (λ gap. gap ≡ model.first_gap names.now (lines_of (items_of journal.entry))) }
 {
-    // Where nothing outside follows a member, nothing comes of one at all.
-    if !has_followed(journal, names) {
-        return None;
-    }
-    // What came of a live event is a later one that touched what it wrote.
-    first_followed(journal.entries, names)
+    // The first event outside that came of a member follows a member.
+    let outsiders = outsiders(alloc, journal, names)?;
+    Ok(least_gap(journal, names, &outsiders))
 }
 
 /// Of what is live together with this set: the first member of which a cause is missing, and the first such cause.

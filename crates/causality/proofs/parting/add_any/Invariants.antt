@@ -1,0 +1,14 @@
+use Rattle.std.proofs.Common.{◌≡◌, ◌==◌, ◌&&◌, ◌||◌, length, map, drop}
+use Rattle.std.specs.List.{list_any}
+use Rattle.history.specs.Journal.{is_in}
+use Rattle.ids.specs.declared.names.EventName.{EventName}
+use Rattle.journal.specs.Items.{item_of}
+use Rattle.causality.specs.Placed.{is_outsider}
+use Rattle.causality.specs.Selections.{numbers}
+use Rattle.causality.proofs.parting.add_any.Given as goal
+
+-- those so far and those of the entries that are left
+abbrev pub invariant-loop-entry : goal.invariant-loop-entry
+invariant-loop-entry l = (e : EventName) →
+    (is_in (numbers l.outsiders.items) e.0 || list_any (λ x. (x.event.name.0 == e.0) && is_outsider l.names (map item_of l.journal.entries.now) (length l.journal.settled.now) l.journal.places.now x.event.name) (drop l.entry-index l.journal.entries.now))
+    ≡ (is_in (numbers l.fn.outsiders.items) e.0 || list_any (λ x. (x.event.name.0 == e.0) && is_outsider l.names (map item_of l.journal.entries.now) (length l.journal.settled.now) l.journal.places.now x.event.name) l.journal.entries.now)
