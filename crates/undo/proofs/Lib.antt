@@ -7,3 +7,4 @@ pub mod Exchanging
 pub mod Mapping
 pub mod Standing
 pub mod Neighbours
+pub mod Written
