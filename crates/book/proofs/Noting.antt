@@ -1,24 +1,16 @@
 -- An agenda keeps its notes where nothing is shown anew, and has those of the next world once an event's cells are noted.
-use Rattle.std.proofs.Common.{◌≡◌, ℕ, Bool, true, false, ◌||◌, List, [], ◌∷◌, map, Option, Some, None, refl, sym, ap, ◌∙◌, subst}
-use Rattle.std.specs.List.{list_any, AllByRecursion}
+use Rattle.std.proofs.Common.{◌≡◌, ℕ, false, true, List, map, reverse, Option, Some, None, refl, sym, ap, ◌∙◌, subst}
 use Rattle.std.specs.Option.{ForSome}
-use Rattle.std.proofs.lemmas.Bool.{false≢true}
-use Rattle.std.proofs.lemmas.List.Folds.{list_any-append}
-use Rattle.history.specs.Subject.{after}
-use Rattle.history.specs.Records.{State, Record, contents}
-use Rattle.history.proofs.Exchanges.{contents_after}
+use Rattle.history.specs.Records.{Seen, State, Record, contents}
+use Rattle.history.specs.Walks.{walk}
 use Rattle.ids.specs.CellKeys.{same_key}
-use Rattle.ids.proofs.CellKeys.{same_self}
 use Rattle.ids.specs.declared.names.EventName.{EventName}
 use Rattle.ids.specs.declared.cells.CellKey.{CellKey}
 use Rattle.worldcells.specs.Events as world
 use Rattle.worldcells.specs.Theory.{cells, state_of_world}
 use Rattle.worldcells.specs.View.{world_of}
-use Rattle.worldcells.specs.World.{World, Content}
+use Rattle.worldcells.specs.World.{World}
 use Rattle.worldcells.specs.declared.world.World as code
-use Rattle.event.specs.Events.{Foot, events, noted_events}
-use Rattle.event.specs.Effects.{Brings}
-use Rattle.event.proofs.Law.{noted_laws}
 use Rattle.std.specs.Prelude.{Result, IfOk}
 use Rattle.ids.specs.declared.names.VatNo.{VatNo}
 use Rattle.ids.specs.declared.names.PromId.{PromId}
@@ -31,10 +23,11 @@ use Rattle.book.specs.Books.{Book}
 use Rattle.agenda.specs.Agendas.{AlikeBut, KnownAs, can_learn}
 use Rattle.agenda.specs.AgendaView.{NotedIn, has_known, out_at}
 use Rattle.agenda.specs.declared.agenda.Agenda.{Agenda}
-use Rattle.journal.specs.Items.{Item, entered}
-use Rattle.undo.specs.CoreView.{state_of, shown}
+use Rattle.journal.specs.Items.{Item, entered, swap_item}
+use Rattle.undo.specs.CoreView.{items_of, state_of, shown}
+use Rattle.undo.specs.Written.{written_at}
+use Rattle.undo.proofs.Written.{swap_alike, walk_alike, any_back}
 use Rattle.undo.specs.declared.undoing.Core.{Core}
-use Rattle.book.proofs.Unnamed.{unwritten, apart}
 
 -- an agenda, if there is one, has the notes of what is shown
 abbrev pub Noted : Option Agenda → State cells → Type 0
@@ -60,32 +53,16 @@ noted_some agenda s h x e = subst (NotedIn (contents cells s)) (one agenda x e) 
     one : (a b : Agenda) → Some a ≡ Some b → a ≡ b
     one a b e = cc
 
-none_true : (a b : Bool) → (a || b) ≡ false → (a ≡ false) × (b ≡ false)
-none_true true b h = absurd (false≢true (sym h))
-none_true false b h = (refl, h)
+-- an event leaves the cells as they were of which it has no records
+pub written_alike : (old now : Core) (e : world.Noted) (seat : ℕ) (touched : List CellKey) (kept : Record cells) → shown now ≡ entered e seat touched kept (shown old) → AlikeBut (map (λ r. r.0) kept) (contents cells (state_of old)) (contents cells (state_of now))
+written_alike old now e seat touched kept is k h = sym (ap (λ (j : List Item × State cells). (j.1 k).0) is ∙ ap (λ (x : Seen cells). x.0) (swap_alike kept (state_of old) k h))
 
--- told apart the other way round
-turned_round : (k d : CellKey) → same_key k d ≡ false → same_key d k ≡ false
-turned_round k d ne = apart d k (λ same. false≢true (sym ne ∙ ap (same_key k) same ∙ same_self k))
+-- an undo and a redo leave the cells as they were of which the entries at their positions have no records
+pub undone_alike : (old now : Core) (ps : List ℕ) → shown now ≡ walk (swap_item false) (reverse ps) (shown old) → AlikeBut (written_at (items_of old) ps) (contents cells (state_of old)) (contents cells (state_of now))
+undone_alike old now ps is k h = sym (ap (λ (j : List Item × State cells). (j.1 k).0) is ∙ ap (λ (x : Seen cells). x.0) (walk_alike false (reverse ps) (shown old) k (any_back (same_key k) (items_of old) ps ∙ h)))
 
-not_written : (k : CellKey) (ps : List (CellKey × Content)) → list_any (λ c. same_key k c) (map (λ p. p.0) ps) ≡ false → AllByRecursion (λ p. same_key p.0 k ≡ false) ps
-not_written k [] h = tt
-not_written k (p ∷ ps) h =
-    let both = none_true (same_key k p.0) (list_any (λ c. same_key k c) (map (λ p. p.0) ps)) h in
-    (turned_round k p.0 both.0, not_written k ps both.1)
-
--- an event leaves the cells as they were that it does not touch
-pub left_alike : (touched : List CellKey) (e : EventName) (f : Foot) (kept : Record cells) (w : World) → Brings e f touched kept → AlikeBut touched w (after events f w)
-left_alike touched e f kept w brings k h =
-    let none = none_true (list_any (same_key k) f.reads) (list_any (same_key k) (map (λ p. p.0) f.writes)) (sym (list_any-append (same_key k) f.reads (map (λ p. p.0) f.writes)) ∙ sym (brings.touch k) ∙ h) in
-    sym (unwritten f.writes w k (not_written k f.writes none.1))
-
-module _ (old now : Core) (e : world.Noted) (seat : ℕ) (touched : List CellKey) (kept : Record cells) (f : Foot) (brings : Brings e.name f touched kept) (is : shown now ≡ entered e seat touched kept (shown old)) where
-  stepped : contents cells (state_of now) ≡ after events f (contents cells (state_of old))
-  stepped = ap (λ (j : List Item × State cells). contents cells j.1) is ∙ contents_after noted_events noted_laws e.name.0 f kept (state_of old) brings.write
-
-  pub entered_alike : AlikeBut touched (contents cells (state_of old)) (contents cells (state_of now))
-  entered_alike = subst (AlikeBut touched (contents cells (state_of old))) (sym stepped) (left_alike touched e.name f kept (contents cells (state_of old)) brings)
+pub redone_alike : (old now : Core) (ps : List ℕ) → shown now ≡ walk (swap_item true) ps (shown old) → AlikeBut (written_at (items_of old) ps) (contents cells (state_of old)) (contents cells (state_of now))
+redone_alike old now ps is k h = sym (ap (λ (j : List Item × State cells). (j.1 k).0) is ∙ ap (λ (x : Seen cells). x.0) (walk_alike true ps (shown old) k h))
 
 -- THE LEMMAS: what noted cells give, and where the same is shown
 pub noted_next : (old now : Core) (agenda later : Option Agenda) (w : code.World) (touched : List CellKey) → state_of_world w ≡ state_of now

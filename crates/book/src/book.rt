@@ -54,6 +54,7 @@ use post::published::Published;
 use post::vat::Vat;
 use scopes::{CheckFault, Outer, check};
 use std::alloc::{AllocError, Global};
+use undo::records::keys_of;
 use undo::undoing::{Core, Deed};
 use worldcells::event::{Action, Event};
 use worldcells::world::World;
@@ -103,17 +104,17 @@ fn check_program(alloc: Global, program: &Program, outer: &Outer) -> Result<(), 
     }
 }
 
-/// The agenda with what the cells hold now that an event touched. Without memory there is none, and it is to be found anew.
+/// The agenda with what these cells hold now, which are all that were written. Without memory there is none, and it is to be found anew.
 pub(crate) fn noted(
     alloc: Global,
     agenda: Option<Agenda>,
     world: &World,
-    touched: &[CellKey],
+    written: &[CellKey],
 ) -> Option<Agenda>
-    ensures { (before : WorldModel) → ForSome agenda (NotedIn before) → AlikeBut touched.now before (world_of world.now) → ForSome result (NotedIn (world_of world.now)) }
+    ensures { (before : WorldModel) → ForSome agenda (NotedIn before) → AlikeBut written.now before (world_of world.now) → ForSome result (NotedIn (world_of world.now)) }
 {
     let mut agenda = agenda?;
-    match agenda.note(alloc, world, touched) {
+    match agenda.note(alloc, world, written) {
         Ok(()) => Some(agenda),
         Err(_) => None,
     }
@@ -198,9 +199,10 @@ impl Book {
             notes,
         } = effects;
         let deed = Deed { event, notes, seat };
+        let written = keys_of(self.alloc, &records)?;
         self.core.enter(self.alloc, deed, &touched, records)?;
         self.next += 1;
-        self.agenda = noted(self.alloc, self.agenda.take(), self.core.world(), &touched);
+        self.agenda = noted(self.alloc, self.agenda.take(), self.core.world(), &written);
         Ok(())
     }
 

@@ -13,7 +13,7 @@ ghost use Rattle.book.specs.Fault.{told_by, Tells};
 ghost use Rattle.book.specs.declared.fault.BookFault.TheVariants.{Memory};
 ghost use Rattle.book.specs.Refusals.{first, missing_refusal, undone_refusal, live_refusal, undo_refusal, redo_refusal, cone_refusal, exchange_refusal, refuse_where, not_live, placed_refusal, closed_refusal, settle_refusal};
 
-use crate::book::Book;
+use crate::book::{Book, noted};
 use crate::fault::BookFault;
 use causality::cone::cone;
 use causality::names::NameSet;
@@ -201,9 +201,10 @@ impl Book {
         let journal = self.core.journal();
         check_undo(self.alloc, journal, &names)?;
         let positions = positions(self.alloc, journal, &names)?;
+        let written = self.core.written_at(self.alloc, &positions)?;
         self.core.prepare(self.alloc, &positions)?;
         self.core.undo(&positions);
-        self.agenda = None;
+        self.agenda = noted(self.alloc, self.agenda.take(), self.core.world(), &written);
         Ok(positions.len())
     }
 
@@ -222,9 +223,10 @@ impl Book {
         let journal = self.core.journal();
         check_redo(self.alloc, journal, &names)?;
         let positions = positions(self.alloc, journal, &names)?;
+        let written = self.core.written_at(self.alloc, &positions)?;
         self.core.prepare(self.alloc, &positions)?;
         self.core.redo(&positions);
-        self.agenda = None;
+        self.agenda = noted(self.alloc, self.agenda.take(), self.core.world(), &written);
         Ok(positions.len())
     }
 

@@ -29,6 +29,7 @@ use ids::names::{EventName, MsgId, VatNo};
 use post::message::{Message, Place, same_sent};
 use std::alloc::{AllocError, Global};
 use turn::ticket::{Out, Ran, Task, Ticket};
+use undo::records::keys_of;
 use undo::undoing::Deed;
 use worldcells::event::{Action, Event};
 use worldcells::world::World;
@@ -279,9 +280,10 @@ impl Book {
             notes,
             seat: out.seat,
         };
+        let written = keys_of(self.alloc, &records)?;
         self.core.enter(self.alloc, deed, &touched, records)?;
         self.desk.remove(out.event);
-        self.agenda = noted(self.alloc, self.agenda.take(), self.core.world(), &touched);
+        self.agenda = noted(self.alloc, self.agenda.take(), self.core.world(), &written);
         Ok(())
     }
 

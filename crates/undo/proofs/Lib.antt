@@ -8,3 +8,4 @@ pub mod Mapping
 pub mod Standing
 pub mod Neighbours
 pub mod Linked
+pub mod Written

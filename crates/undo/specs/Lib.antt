@@ -1,2 +1,3 @@
 pub mod CoreView
 pub mod Standing
+pub mod Written

@@ -1,10 +1,11 @@
 // Records of cells, one after another.
-ghost use Rattle.std.specs.Prelude.{◌≡◌, true, length, OnOk};
+ghost use Rattle.std.specs.Prelude.{◌≡◌, ◌++◌, true, length, map, IfOk, OnOk};
 ghost use Rattle.history.specs.Records.{swap_state, swap_record};
 ghost use Rattle.ids.specs.declared.cells.CellKey.{CellKey};
 ghost use Rattle.worldcells.specs.View.{seen_of_world, is_ready, swaps_of, RisesBy};
 ghost use Rattle.worldcells.specs.Theory.{cells, state_of_world, kept_of, kepts_of, all_pass};
 
+use ids::cells::CellKey;
 use std::alloc::{AllocError, Global};
 use worldcells::record::CellRecord;
 use worldcells::world::World;
@@ -38,4 +39,23 @@ pub fn swap_records(world: &mut World, records: &mut [CellRecord])
     for record in records.iter_mut() {
         world.swap_record(record);
     }
+}
+
+/// Adds the cells of which these records are. Fails only for want of memory.
+pub fn add_keys(keys: &mut Vec<CellKey>, records: &[CellRecord]) -> Result<(), AllocError>
+    ensures { OnOk result (keys.new.items ≡ keys.old.items ++ map (λ r. r.0) (kepts_of records.now)) }
+{
+    for record in records {
+        keys.push(record.key()?)?;
+    }
+    Ok(())
+}
+
+/// The cells of which these records are. Fails only for want of memory.
+pub fn keys_of(alloc: Global, records: &[CellRecord]) -> Result<Vec<CellKey>, AllocError>
+    ensures { IfOk result (λ keys. keys.items ≡ map (λ r. r.0) (kepts_of records.now)) }
+{
+    let mut keys = Vec::with_capacity(alloc, records.len())?;
+    add_keys(&mut keys, records)?;
+    Ok(keys)
 }

@@ -17,7 +17,7 @@ ghost use Rattle.journal.specs.Items.{item_of, is_live, swap_item, entered, keys
 ghost use Rattle.journal.specs.Links.{AreFollowers, names_of};
 ghost use Rattle.journal.specs.SettledView.{items_in};
 
-use crate::records::{make_rooms, swap_records};
+use crate::records::{add_keys, make_rooms, swap_records};
 use erules::outbox::Note;
 use heap::state::VatState;
 use ids::cells::CellKey;
@@ -81,6 +81,7 @@ fn swap_one(world: &mut World, entry: &mut Entry, mark: Mark)
 impl Core {
     ghost use Rattle.undo.specs.CoreView.{settled_of, open_of, items_of, state_of, shown, ready_of, swaps_of};
     ghost use Rattle.journal.specs.Journals.{items_of as journal_items};
+    ghost use Rattle.undo.specs.Written.{written_at};
 
     /// No cells, and no entries.
     pub fn new(alloc: Global) -> Core
@@ -172,6 +173,20 @@ impl Core {
             make_rooms(alloc, &mut self.world, &self.entries[place].records)?;
         }
         Ok(())
+    }
+
+    /// The cells of which the entries at these positions, which are not settled, have records. Fails only for want of memory.
+    pub fn written_at(&self, alloc: Global, positions: &[usize]) -> Result<Vec<CellKey>, AllocError>
+        requires behind { All (λ p. settled_of self.now ≤ p) positions.now }
+        requires within { All (λ p. p < length (items_of self.now)) positions.now }
+        ensures { IfOk result (λ keys. keys.items ≡ written_at (items_of self.now) positions.now) }
+    {
+        let mut keys = Vec::new(alloc);
+        for position in positions {
+            let place = *position - self.settled.len();
+            add_keys(&mut keys, &self.entries[place].records)?;
+        }
+        Ok(keys)
     }
 
     /// Undoes the entries at these ascending positions, which are not settled, by exchanging their records from the last to the first.
