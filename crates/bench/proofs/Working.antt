@@ -284,10 +284,10 @@ pub checked_out_work : (r : Result Pick BookFault) (old now : Held) → IfOk r (
 checked_out_work (Ok p) old now ok err all = picked_work p old now ok all
 checked_out_work (Err f) old now ok err all = subst (λ (x : Held). AreWork (events_of x.deeds)) (sym err) all
 
-pub given_back_work : {A : Type 0} (r : Result A (Ran × BookFault)) (t : Ran) (old now : Held) → IfOk r (λ e. Returns (turn_of t) old now) → IfErr r (λ x. now ≡ refused x.1 t.carried.event old)
+pub given_back_work : {A B : Type 0} (fault : B → BookFault) (r : Result A B) (t : Ran) (old now : Held) → IfOk r (λ e. Returns (turn_of t) old now) → IfErr r (λ x. now ≡ refused (fault x) t.carried.event old)
     → AreWork (events_of old.deeds) → AreWork (events_of now.deeds)
-given_back_work (Ok e) t old now ok err all = given_work t old now ok all
-given_back_work (Err x) t old now ok err all = refused_work x.1 t.carried.event old now err all
+given_back_work fault (Ok e) t old now ok err all = given_work t old now ok all
+given_back_work fault (Err x) t old now ok err all = refused_work (fault x) t.carried.event old now err all
 
 module _ (before seats most : ℕ) (began : Book) (left given first behind : ℕ) (untouched : Bool) (old now : Book)
     (h : IsWorkshop before seats most began left given first behind untouched old) where

@@ -119,7 +119,15 @@ impl<L: Opening> Bench<L> {
         ensures err { IfErr result (λ r. (r.0 ≡ ticket) × (seat.new ≡ refused r.1 ticket.carried.event seat.old)) }
         ensures strange { ticket.carried.seat ≢ seat.old.number → result ≡ Err (ticket, NoTicket) }
     {
-        self.desk.lock(rt).give(rt, &self.cell, ticket, seat)
+        // The lock is free again behind this, before anything of the ticket is dropped.
+        let given = self.desk.lock(rt).give(rt, &self.cell, &ticket, seat);
+        match given {
+            Ok(event) => {
+                ticket.discard();
+                Ok(event)
+            }
+            Err(fault) => Err((ticket, fault)),
+        }
     }
 
     /// Does a command. Answers the name of a new event, where it enters one.

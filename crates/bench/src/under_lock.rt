@@ -194,30 +194,33 @@ impl<L: Opening> Desk<L> {
         }
     }
 
-    /// Enters the turn of a ticket that was run, with the seat that checked it out. A stale ticket is abandoned.
+    /// Enters the turn of a ticket that was run, with the seat that checked it out. A stale ticket is abandoned. What the ticket carries stays
+    /// with the caller, who drops it once the lock is free.
     ///
     /// # Errors
-    /// `NoTicket`, with another seat too, `Stale`, `Full`, `Memory`, tried in this order. The ticket comes back.
+    /// `NoTicket`, with another seat too, `Stale`, `Full`, `Memory`, tried in this order.
     pub fn give<R: Wait>(
         &mut self,
         rt: &R,
         cell: &Cell,
-        ticket: Ticket<Ran>,
+        ticket: &Ticket<Ran>,
         seat: &mut Seat<L>,
-    ) -> Result<EventName, (Ticket<Ran>, BookFault)>
+    ) -> Result<EventName, BookFault>
         requires { cell.now.table.shared.table_id ≡ L.table }
         ensures seated { (L.before < seat.old.number) × (seat.old.number ≤ L.before + L.seats) }
-        ensures ok { IfOk result (λ e. (e ≡ ticket.carried.event) × (ticket.carried.seat ≡ seat.old.number) × Commits ticket (book_of self.old.book) (book_of self.new.book) × Returns (turn_of ticket) seat.old seat.new) }
-        ensures err { IfErr result (λ r. (r.0 ≡ ticket) × (seat.new ≡ refused r.1 ticket.carried.event seat.old) × (ticket.carried.seat ≡ seat.old.number → TellsCommit r.1 (book_of self.old.book) ticket)) }
-        ensures left { IfErr result (λ r. book_of self.new.book ≡ left_by r.1 ticket.carried.event (book_of self.old.book)) }
-        ensures strange { ticket.carried.seat ≢ seat.old.number → result ≡ Err (ticket, NoTicket) }
+        ensures ok { IfOk result (λ e. (e ≡ ticket.now.carried.event) × (ticket.now.carried.seat ≡ seat.old.number) × Commits ticket.now (book_of self.old.book) (book_of self.new.book) × Returns (turn_of ticket.now) seat.old seat.new) }
+        ensures err { IfErr result (λ fault. (seat.new ≡ refused fault ticket.now.carried.event seat.old) × (ticket.now.carried.seat ≡ seat.old.number → TellsCommit fault (book_of self.old.book) ticket.now)) }
+        ensures left { IfErr result (λ fault. book_of self.new.book ≡ left_by fault ticket.now.carried.event (book_of self.old.book)) }
+        ensures strange { ticket.now.carried.seat ≢ seat.old.number → result ≡ Err NoTicket }
         ensures kept { (self.new.budget ≡ self.old.budget) × (self.new.made ≡ self.old.made) }
     {
-        if ticket.ran().carried.seat != seat.number() {
-            return Err((ticket, BookFault::NoTicket));
+        let ran = ticket.ran();
+        let event = ran.carried.event;
+        if ran.carried.seat != seat.number() {
+            return Err(BookFault::NoTicket);
         }
-        match self.book.commit(ticket) {
-            Ok(event) => {
+        match self.book.enter_turn(ran) {
+            Ok(()) => {
                 let given = last_event(&self.book);
                 seat.note(
                     rt,
@@ -228,10 +231,9 @@ impl<L: Opening> Desk<L> {
                 );
                 Ok(event)
             }
-            Err((ticket, fault)) => {
-                let number = ticket.ran().carried.event;
-                self.let_stale_go(rt, cell, number, &fault, seat);
-                Err((ticket, fault))
+            Err(fault) => {
+                self.let_stale_go(rt, cell, event, &fault, seat);
+                Err(fault)
             }
         }
     }

@@ -114,17 +114,17 @@ impl<L: Shift> WorkDesk<L> {
         Ok(pick)
     }
 
-    /// Enters the turn of a ticket that was run.
+    /// Enters the turn of a ticket that was run, as `Desk::give`.
     pub fn give<R: Wait>(
         &mut self,
         rt: &R,
         cell: &Cell,
-        ticket: Ticket<Ran>,
+        ticket: &Ticket<Ran>,
         seat: &mut Seat<L>,
-    ) -> Result<EventName, (Ticket<Ran>, BookFault)>
+    ) -> Result<EventName, BookFault>
         requires { cell.now.table.shared.table_id ≡ L.table }
-        ensures ok { IfOk result (λ e. Returns (turn_of ticket) seat.old seat.new) }
-        ensures err { IfErr result (λ r. (r.0 ≡ ticket) × (seat.new ≡ refused r.1 ticket.carried.event seat.old)) }
+        ensures ok { IfOk result (λ e. Returns (turn_of ticket.now) seat.old seat.new) }
+        ensures err { IfErr result (λ fault. seat.new ≡ refused fault ticket.now.carried.event seat.old) }
         ensures work { AreWork (events_of seat.old.deeds) → AreWork (events_of seat.new.deeds) }
     {
         self.untouched = false;

@@ -87,7 +87,14 @@ impl<L: Shift> Workplace<L> for Workshop<L> {
         ticket: Ticket<Ran>,
         seat: &mut Seat<L>,
     ) -> Result<EventName, (Ticket<Ran>, BookFault)> {
-        self.desk.lock(rt).give(rt, &self.cell, ticket, seat)
+        let given = self.desk.lock(rt).give(rt, &self.cell, &ticket, seat);
+        match given {
+            Ok(event) => {
+                ticket.discard();
+                Ok(event)
+            }
+            Err(fault) => Err((ticket, fault)),
+        }
     }
 
     fn abandon<R: Wait>(&self, rt: &R, number: EventName, seat: &mut Seat<L>) {

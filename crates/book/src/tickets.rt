@@ -287,8 +287,11 @@ impl Book {
         Ok(())
     }
 
-    /// Enters a turn that was run, or changes nothing.
-    fn enter_turn(&mut self, ran: &Ran) -> Result<(), BookFault>
+    /// Enters the turn of a ticket that was run, and the ticket is no longer out. What it carries stays with the caller.
+    ///
+    /// # Errors
+    /// `NoTicket`, `Stale`, `Full`, `Memory`, tried in this order. Nothing changes.
+    pub fn enter_turn(&mut self, ran: &Ran) -> Result<(), BookFault>
         ensures ok { OnOk result (Commits ran.now (book_of self.old) (book_of self.new)) }
         ensures err { IfErr result (λ fault. TellsCommit fault (book_of self.old) ran.now) }
         ensures unchanged { OnErr result (book_of self.new ≡ book_of self.old) }
