@@ -1,4 +1,6 @@
 pub mod Orders
+pub mod Groups
+pub mod Fronts
 pub mod Noting
 pub mod Noted
 pub mod Renewing

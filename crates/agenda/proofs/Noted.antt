@@ -1,6 +1,8 @@
 -- What was gone over is all that there is: messages, vats, and the views of a vat.
-use Rattle.std.proofs.Common.{◌≡◌, Bool, true, false, ◌&&◌, ◌||◌, cond, List, [], ◌∷◌, map, Option, Some, None, is_some, Contains, Bor, refl, sym, ap, ap₂, ◌∙◌}
+use Rattle.std.proofs.Common.{◌≡◌, Bool, true, false, ◌&&◌, ◌||◌, cond, List, [], ◌∷◌, map, Option, Some, None, is_some, Contains, Bor, refl, sym, ap, ap₂, subst, ◌∙◌}
 use Rattle.std.specs.List.{list_any}
+use Rattle.std.proofs.lemmas.Bool.{false≢true}
+use Rattle.std.specs.BTreeSet.{BTreeSet, contains}
 use Rattle.std.specs.Map.{lookup}
 use Rattle.std.specs.Map.Iter.{deref_pair}
 use Rattle.std.specs.Option.{option_map}
@@ -23,8 +25,12 @@ use Rattle.post.specs.MessageView.{message_of as message_of_code}
 use Rattle.post.specs.declared.message.Message.{Message}
 use Rattle.worldcells.specs.World.{World, message, message_in, message_of, published_as, vat_state}
 use Rattle.worldcells.specs.Listed.{messages_in}
-use Rattle.agenda.specs.Agendas.{is_waiting, is_open, open_view, can_learn}
-use Rattle.agenda.specs.AgendaView.{open_cmp, known_cmp, has_open, is_among, NotedIn, NotesMessages, NotesViews}
+use Rattle.agenda.specs.Agendas.{is_open, open_view, can_learn}
+use Rattle.agenda.specs.Waiting.{how, Indexed}
+use Rattle.agenda.specs.Ways.{hangs_on, waits_of, waits_in}
+use Rattle.agenda.specs.AgendaView.{open_cmp, known_cmp, follower_cmp, has_open, is_among, is_in, has_follower, FollowsAll, NotedIn, PlacesAll, NotesViews}
+use Rattle.agenda.specs.declared.waiting.Waiting.{Waiting}
+use Rattle.agenda.specs.declared.agenda.Follower.{Follower}
 use Rattle.agenda.specs.declared.agenda.Open.{Open}
 use Rattle.agenda.specs.declared.agenda.Known.{Known}
 use Rattle.agenda.specs.declared.agenda.Agenda.{Agenda}
@@ -117,9 +123,13 @@ no_views_there w v absent p u = sym (at_vat_only w v u p false (sym (ap (λ (t :
 
 -- ---- an agenda with notes of all
 
-waiting_there : (o : Option post.Message) → cond (is_some o) (is_waiting o) false ≡ is_waiting o
-waiting_there None = refl
-waiting_there (Some g) = refl
+waiting_there : (w : World) (o : Option post.Message) → cond (is_some o) (waits_of w o) None ≡ waits_of w o
+waiting_there w None = refl
+waiting_there w (Some g) = refl
+
+following_there : (a : Agenda) (m : MsgId) (o : Option post.Message) → (is_some o ≡ true → FollowsAll a m (hangs_on o)) → FollowsAll a m (hangs_on o)
+following_there a m None h = λ n among. absurd (false≢true among)
+following_there a m (Some g) h = h refl
 
 open_there : (o : Option heap.Content) → cond (is_some o) (is_open o) false ≡ is_open o
 open_there None = refl
@@ -129,12 +139,14 @@ learnt_there : (o : Option heap.Content) (b : Bool) → cond (is_some o) (is_ope
 learnt_there None b = refl
 learnt_there (Some x) b = refl
 
-pub noted_all : (w : World) (a b d : Agenda) → a.waiting.keys ≡ [] → a.open.keys ≡ [] → a.known.keys ≡ []
-    → NotesMessages w (λ m. is_some (message_of w m)) a b → NotesViews w (λ p v. is_some (vat_state w v (view_cell p))) b d → NotedIn w d
-noted_all w a b d waiting opens known f g = record {
-  messages = λ m. g.messages m ∙ f.messages m ∙ ap (cond (is_some (message_of w m)) (is_waiting (message_of w m))) (ap (list_any (λ k. is_eq (message_cmp m k))) waiting) ∙ waiting_there (message_of w m);
-  views = λ p v. let o : Open = record { promise = p; vat = v } in g.views p v ∙ ap (cond (is_some (vat_state w v (view_cell p))) (open_view w p v)) (f.views p v ∙ ap (list_any (λ k. is_eq (open_cmp o k))) opens) ∙ open_there (vat_state w v (view_cell p));
-  learns = λ v p. let k : Known = record { vat = v; promise = p } in g.learns v p ∙ ap (cond (is_some (vat_state w v (view_cell p))) (can_learn w v p)) (f.learns v p ∙ ap (list_any (λ j. is_eq (known_cmp k j))) known) ∙ learnt_there (vat_state w v (view_cell p)) (is_some (published_as w p));
+pub noted_all : (w : World) (a b d : Agenda) → ((m : MsgId) → how a.waiting m ≡ None) → Indexed a.waiting → a.open.keys ≡ [] → a.known.keys ≡ []
+    → PlacesAll w (λ m. is_some (message_of w m)) a b → NotesViews w (λ p v. is_some (vat_state w v (view_cell p))) b d → NotedIn w d
+noted_all w a b d waiting indexed opens known f g = record {
+  messages = λ m. ap (λ (q : Waiting). how q m) g.waits ∙ f.ways m ∙ ap (cond (is_some (message_of w m)) (waits_in w m)) (waiting m) ∙ waiting_there w (message_of w m);
+  follows = λ m. following_there d m (message_of w m) (λ h n among. ap (λ (s : BTreeSet Follower). contains follower_cmp s (record { before = n; message = m })) g.followers ∙ f.followed m h n among);
+  indexed = subst Indexed (sym g.waits) (f.indexed indexed);
+  views = λ p v. let o : Open = record { promise = p; vat = v } in g.views p v ∙ ap (cond (is_some (vat_state w v (view_cell p))) (open_view w p v)) (ap (λ (s : BTreeSet Open). contains open_cmp s o) f.opens ∙ ap (list_any (λ k. is_eq (open_cmp o k))) opens) ∙ open_there (vat_state w v (view_cell p));
+  learns = λ v p. let k : Known = record { vat = v; promise = p } in g.learns v p ∙ ap (cond (is_some (vat_state w v (view_cell p))) (can_learn w v p)) (ap (λ (s : BTreeSet Known). contains known_cmp s k) f.knows ∙ ap (list_any (λ j. is_eq (known_cmp k j))) known) ∙ learnt_there (vat_state w v (view_cell p)) (is_some (published_as w p));
 }
 
 -- ---- what is read of a vat's view
@@ -146,6 +158,9 @@ open_seen w v p s there x seen = ap is_open (sym seen ∙ ap (λ (t : State). t 
 
 pub seen_all : (seen vats : List VatNo) → map (λ v. v) seen ≡ vats → (v : VatNo) → is_among seen v ≡ is_among vats v
 seen_all seen vats whole v = sym (any_mapped (λ u. is_eq (vat_cmp u v)) (λ u. u) seen) ∙ ap (λ l. is_among l v) whole
+
+pub seen_messages : (seen names : List MsgId) → map (λ m. m) seen ≡ names → (m : MsgId) → is_in seen m ≡ is_in names m
+seen_messages seen names whole m = sym (any_mapped (λ n. is_eq (message_cmp n m)) (λ n. n) seen) ∙ ap (λ l. is_in l m) whole
 
 -- the vats in whose views a promise is open, for the promise itself
 pub open_at : (a : Agenda) (p : PromId) (seen : List VatNo) → ((v : VatNo) → is_among seen v ≡ has_open a p v) → (q : PromId) (v : VatNo) → (is_eq (promise_cmp p q) && is_among seen v) ≡ (is_eq (promise_cmp p q) && has_open a q v)

@@ -11,7 +11,10 @@ use Rattle.ids.specs.Cells.{message_cmp, promise_cmp, vat_cmp}
 use Rattle.ids.specs.declared.names.VatNo.{VatNo}
 use Rattle.ids.specs.declared.names.MsgId.{MsgId}
 use Rattle.ids.specs.declared.names.PromId.{PromId}
-use Rattle.agenda.specs.AgendaView.{open_cmp, known_cmp}
+use Rattle.agenda.specs.Waiting.{ready_cmp}
+use Rattle.agenda.specs.AgendaView.{open_cmp, known_cmp, follower_cmp}
+use Rattle.agenda.specs.declared.waiting.Ready.{Ready}
+use Rattle.agenda.specs.declared.agenda.Follower.{Follower}
 use Rattle.agenda.specs.declared.agenda.Open.{Open}
 use Rattle.agenda.specs.declared.agenda.Known.{Known}
 
@@ -29,6 +32,12 @@ open_total = then_total (on_total (λ (o : Open). o.promise) promise_total) (on_
 
 pub known_total : IsTotalOrder known_cmp
 known_total = then_total (on_total (λ (k : Known). k.vat) vat_total) (on_total (λ (k : Known). k.promise) promise_total)
+
+pub ready_total : IsTotalOrder ready_cmp
+ready_total = then_total (on_total (λ (r : Ready). r.vat) vat_total) (on_total (λ (r : Ready). r.message) message_total)
+
+pub follower_total : IsTotalOrder follower_cmp
+follower_total = then_total (on_total (λ (f : Follower). f.before) message_total) (on_total (λ (f : Follower). f.message) message_total)
 
 pub exact_known : CmpEqualImpliesEq known_cmp
 exact_known a b h = ap (λ (p : VatNo × PromId). let k : Known = record { vat = p.0; promise = p.1 } in k) (exact_pairs vat_cmp promise_cmp exact_vats exact_promises (a.vat, a.promise) (b.vat, b.promise) h)

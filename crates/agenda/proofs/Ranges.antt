@@ -1,34 +1,34 @@
--- Parts of the sets of an agenda: the vats that wait for a promise, and the promises of an event and a number.
-use Rattle.std.proofs.Common.{◌≡◌, ℕ, ◌<◌, nat_eq, arith, Bool, true, false, ◌&&◌, ◌||◌, cond, List, [], ◌∷◌, ◌++◌, Some, None, refl, sym, ap, ap₂, ◌∙◌}
-use Rattle.std.specs.List.{list_any, AllByRecursion, filter}
-use Rattle.std.specs.List.Sorted.{IsStrictlySortedBy}
-use Rattle.std.specs.Ordering.{is_eq, is_gt, is_le, nat_cmp, ordering_then, ordering_reverse, MatchOrdering}
+-- Parts of the sets of an agenda: the vats that wait for a promise, the messages that follow one, the first that is ready at a vat, and the promises
+-- of an event and a number.
+use Rattle.std.proofs.Common.{◌≡◌, ℕ, ◌<◌, nat_eq, arith, Bool, true, false, ◌&&◌, List, [], ◌∷◌, ◌++◌, Some, None, refl, sym, ap, ap₂, ◌∙◌}
+use Rattle.std.specs.Ordering.{is_eq, is_gt, nat_cmp, ordering_then, ordering_reverse, MatchOrdering}
 use Rattle.std.specs.declared.cmp.Ordering.{Ordering}
 use Rattle.std.specs.declared.cmp.Ordering.TheVariants.{Less, Equal, Greater}
 use Rattle.std.specs.declared.ops.Bound.TheVariants.{Included, Unbounded}
 use Rattle.std.specs.BTreeSet.{BTreeSet, contains, keys_between, IsOrdered, IsKeyRangeOf}
 use Rattle.std.proofs.lemmas.Bool.{and_parts, false_from_ne_true, false≢true, eqb-true, eq-eqb}
 use Rattle.std.proofs.lemmas.Map.Lookups.{exact_unsigned}
-use Rattle.std.proofs.lemmas.Map.Views.{any-filter_same}
-use Rattle.std.proofs.lemmas.Cmp.{nat_cmp_total, ranked}
-use Rattle.std.proofs.lemmas.Map.Keys.{sorted_head, sorted_tail}
-use Rattle.std.specs.BTreeMap.Range.{range_contains}
+use Rattle.std.proofs.lemmas.Cmp.{nat_cmp_total, ranked, tied_itself}
 use Rattle.std.proofs.lemmas.List.{append-nil}
-use Rattle.std.proofs.lemmas.List.Kept.{IsStrictlySortedBy-filter}
-use Rattle.std.proofs.lemmas.List.Elements.{recursion_from_All, All-weaker, filter_passes}
-use Rattle.ids.proofs.Keys.{equal, equal_self}
-use Rattle.ids.proofs.CellKeys.{promises_agree}
-use Rattle.ids.specs.KeyLaws.{exact_vat}
-use Rattle.ids.specs.Cells.{promise_cmp, vat_cmp}
+use Rattle.ids.proofs.Keys.{equal_self, exact_vats}
+use Rattle.ids.proofs.CellKeys.{promises_agree, messages_agree}
+use Rattle.ids.specs.KeyLaws.{exact_vat, same_two}
+use Rattle.ids.specs.Cells.{message_cmp, promise_cmp, vat_cmp}
 use Rattle.ids.specs.declared.names.EventName.{EventName}
 use Rattle.ids.specs.declared.names.VatNo.{VatNo}
+use Rattle.ids.specs.declared.names.MsgId.{MsgId}
 use Rattle.ids.specs.declared.names.PromId.{PromId}
 use Rattle.heap.specs.View.{same_promise}
 use Rattle.agenda.specs.Agendas.{KnownAs}
-use Rattle.agenda.specs.AgendaView.{open_cmp, known_cmp, is_among}
+use Rattle.agenda.specs.Waiting.{ready_cmp, FirstAt}
+use Rattle.agenda.specs.AgendaView.{open_cmp, known_cmp, follower_cmp, is_among, is_in}
+use Rattle.agenda.specs.declared.waiting.Ready.{Ready}
+use Rattle.agenda.specs.declared.waiting.Waiting.{Waiting}
+use Rattle.agenda.specs.declared.agenda.Follower.{Follower}
 use Rattle.agenda.specs.declared.agenda.Open.{Open}
 use Rattle.agenda.specs.declared.agenda.Known.{Known}
-use Rattle.agenda.proofs.Orders.{vat_total, promise_total, open_total, then_both, turned}
+use Rattle.agenda.proofs.Orders.{vat_total, message_total, promise_total}
+use Rattle.agenda.proofs.Groups.{members_at, at_other, members_of, none_first, one_first, other_first}
 
 -- ---- numbers at most and at least another one
 
@@ -49,94 +49,86 @@ squeezed m n x y h g = by (nat_cmp m n) refl h (ap (λ o. is_gt (ordering_then o
     by Equal e h g = (exact_unsigned m n e, h, g)
     by Greater e h g = absurd (false≢true (sym h))
 
--- ---- the vats that wait for a promise
+-- ---- the vats that wait for a promise, and the messages that follow one
 
 abbrev pub no_vat : VatNo
 no_vat = record { 0 = record { 0 = 0 } }
 
+abbrev pub no_message : MsgId
+no_message = record { event = record { 0 = 0 }; index = 0 }
+
+no_vat_first : (v : VatNo) → is_gt (vat_cmp no_vat v) ≡ false
+no_vat_first v = not_above_zero v.0.0
+
+pub no_message_first : (m : MsgId) → is_gt (message_cmp no_message m) ≡ false
+no_message_first m = either (nat_cmp 0 m.event.0) (nat_cmp 0 m.index) (not_above_zero m.event.0) (not_above_zero m.index)
+  where
+    either : (a b : Ordering) → is_gt a ≡ false → is_gt b ≡ false → is_gt (ordering_then a b) ≡ false
+    either Less b h g = refl
+    either Equal b h g = g
+    either Greater b h g = absurd (false≢true (sym h))
+
 abbrev pub first_open : PromId → Open
 first_open p = record { promise = p; vat = no_vat }
 
--- the part of the set from the promise on
 abbrev pub opens_from : PromId → BTreeSet Open → List Open
 opens_from p s = keys_between open_cmp (Included (first_open p)) Unbounded s
 
--- the vats of the promise, up to another promise
 abbrev pub vats_at : PromId → List Open → List VatNo
-vats_at p [] = []
-vats_at p (o ∷ os) = cond (same_promise o.promise p) (o.vat ∷ vats_at p os) []
+vats_at p os = members_at (λ (o : Open). o.promise) (λ (o : Open). o.vat) promise_cmp vat_cmp same_promise no_vat p os
 
-pub at_same : (p : PromId) (o : Open) (os : List Open) → same_promise o.promise p ≡ true → vats_at p (o ∷ os) ≡ o.vat ∷ vats_at p os
-at_same p o os h = ap (λ b. cond b (o.vat ∷ vats_at p os) []) h
-
-pub at_other : (p : PromId) (o : Open) (os : List Open) → same_promise o.promise p ≡ false → vats_at p (o ∷ os) ≡ []
-at_other p o os h = ap (λ b. cond b (o.vat ∷ vats_at p os) []) h
-
--- where each comes after what is sought, it is not there
-none_there : (k : Open) (os : List Open) → AllByRecursion (λ o. open_cmp k o ≡ Less) os → list_any (λ o. is_eq (open_cmp k o)) os ≡ false
-none_there k [] h = refl
-none_there k (o ∷ os) h = ap₂ (λ a b. is_eq a || b) h.0 (none_there k os h.1)
-
-each_after : (k j : Open) → open_cmp k j ≡ Less → (os : List Open) → AllByRecursion (λ o. open_cmp j o ≡ Less) os → AllByRecursion (λ o. open_cmp k o ≡ Less) os
-each_after k j h [] g = tt
-each_after k j h (o ∷ os) g = (open_total.trans k j o h g.0, each_after k j h os g.1)
-
--- the promise of an item from the first one on is the same or comes later
-later_promise : (p : PromId) (v : VatNo) (o : Open) → is_gt (open_cmp (first_open p) o) ≡ false → is_eq (promise_cmp p o.promise) ≡ false → open_cmp (record { promise = p; vat = v }) o ≡ Less
-later_promise p v o h g = by (promise_cmp p o.promise) h g
-  where
-    by : (c : Ordering) → is_gt (ordering_then c (vat_cmp no_vat o.vat)) ≡ false → is_eq c ≡ false → ordering_then c (vat_cmp v o.vat) ≡ Less
-    by Less h g = refl
-    by Equal h g = absurd (false≢true (sym g))
-    by Greater h g = absurd (false≢true (sym h))
-
-abbrev pub FromFirst : PromId → List Open → Type 0
-FromFirst p os = AllByRecursion (λ o. is_gt (open_cmp (first_open p) o) ≡ false) os
-
-vats_found : (p : PromId) (v : VatNo) (os : List Open) → IsStrictlySortedBy open_cmp os → FromFirst p os → is_among (vats_at p os) v ≡ list_any (λ o. is_eq (open_cmp (record { promise = p; vat = v }) o)) os
-vats_found p v [] sorted from = refl
-vats_found p v (o ∷ os) sorted from = by (vats_found p v os (sorted_tail open_cmp o os sorted) from.1) (same_promise o.promise p) refl
-  where
-    same : same_promise o.promise p ≡ is_eq (promise_cmp p o.promise)
-    same = promises_agree o.promise p ∙ turned promise_total o.promise p
-
-    by : is_among (vats_at p os) v ≡ list_any (λ x. is_eq (open_cmp (record { promise = p; vat = v }) x)) os → (b : Bool) → same_promise o.promise p ≡ b → is_among (cond b (o.vat ∷ vats_at p os) []) v ≡ (is_eq (open_cmp (record { promise = p; vat = v }) o) || list_any (λ x. is_eq (open_cmp (record { promise = p; vat = v }) x)) os)
-    by rest true e = ap₂ (λ a b. a || b)
-        (turned vat_total o.vat v ∙ ap (λ b. b && is_eq (vat_cmp v o.vat)) (sym e ∙ same) ∙ sym (then_both (promise_cmp p o.promise) (vat_cmp v o.vat)))
-        rest
-    by rest false e =
-        let after = later_promise p v o from.0 (sym same ∙ e) in
-        sym (none_there (record { promise = p; vat = v }) (o ∷ os) (after, each_after (record { promise = p; vat = v }) o after os (sorted_head open_cmp o os sorted)))
-
-at_most : (o : Ordering) → (is_le o && true) ≡ true → is_gt o ≡ false
-at_most Less h = refl
-at_most Equal h = refl
-at_most Greater h = absurd (false≢true h)
-
-zero_first : (n : ℕ) → (is_le (nat_cmp 0 n) && true) ≡ true
-zero_first n = by (nat_cmp 0 n) (not_above_zero n)
-  where
-    by : (o : Ordering) → is_gt o ≡ false → (is_le o && true) ≡ true
-    by Less h = refl
-    by Equal h = refl
-    by Greater h = absurd (false≢true (sym h))
-
-from_first : (p : PromId) (ks : List Open) → FromFirst p (filter (range_contains open_cmp (Included (first_open p)) Unbounded) ks)
-from_first p ks =
-    recursion_from_All (λ o. is_gt (open_cmp (first_open p) o) ≡ false) (filter (range_contains open_cmp (Included (first_open p)) Unbounded) ks)
-    (All-weaker (λ o. range_contains open_cmp (Included (first_open p)) Unbounded o ≡ true) (λ o. is_gt (open_cmp (first_open p) o) ≡ false) (λ o h. at_most (open_cmp (first_open p) o) h) (filter (range_contains open_cmp (Included (first_open p)) Unbounded) ks)
-    (filter_passes (range_contains open_cmp (Included (first_open p)) Unbounded) ks))
-
--- each view of the promise is in that part
-covers : (p : PromId) (v : VatNo) (o : Open) → is_eq (open_cmp (record { promise = p; vat = v }) o) ≡ true → range_contains open_cmp (Included (first_open p)) Unbounded o ≡ true
-covers p v o h =
-    let parts = and_parts (is_eq (promise_cmp p o.promise)) (is_eq (vat_cmp v o.vat)) (sym (then_both (promise_cmp p o.promise) (vat_cmp v o.vat)) ∙ h) in
-    ap (λ c. is_le (ordering_then c (vat_cmp no_vat o.vat)) && true) (equal (promise_cmp p o.promise) parts.0) ∙ zero_first o.vat.0.0
+pub at_other_promise : (p : PromId) (o : Open) (os : List Open) → same_promise o.promise p ≡ false → vats_at p (o ∷ os) ≡ []
+at_other_promise p o os h = at_other (λ (x : Open). x.promise) (λ (x : Open). x.vat) promise_cmp vat_cmp same_promise no_vat p o os h
 
 pub vats_waiting : (p : PromId) (s : BTreeSet Open) → IsOrdered open_cmp s → (v : VatNo) → is_among (vats_at p (opens_from p s)) v ≡ contains open_cmp s (record { promise = p; vat = v })
 vats_waiting p s ordered v =
-    vats_found p v (opens_from p s) (IsStrictlySortedBy-filter open_cmp (range_contains open_cmp (Included (first_open p)) Unbounded) s.keys ordered) (from_first p s.keys)
-    ∙ any-filter_same (λ o. is_eq (open_cmp (record { promise = p; vat = v }) o)) (range_contains open_cmp (Included (first_open p)) Unbounded) true (covers p v) s.keys
+    members_of (λ (o : Open). o.promise) (λ (o : Open). o.vat) promise_cmp vat_cmp same_promise no_vat promise_total vat_total no_vat_first promises_agree (first_open p) p (λ t. refl) s ordered v
+
+abbrev pub first_follower : MsgId → Follower
+first_follower n = record { before = n; message = no_message }
+
+abbrev pub followers_from : MsgId → BTreeSet Follower → List Follower
+followers_from n s = keys_between follower_cmp (Included (first_follower n)) Unbounded s
+
+-- two messages are the same by name
+abbrev pub same_message : MsgId → MsgId → Bool
+same_message m n = same_two m.event.0 n.event.0 m.index n.index
+
+abbrev pub messages_at : MsgId → List Follower → List MsgId
+messages_at n fs = members_at (λ (f : Follower). f.before) (λ (f : Follower). f.message) message_cmp message_cmp same_message no_message n fs
+
+pub at_other_message : (n : MsgId) (f : Follower) (fs : List Follower) → same_message f.before n ≡ false → messages_at n (f ∷ fs) ≡ []
+at_other_message n f fs h = at_other (λ (x : Follower). x.before) (λ (x : Follower). x.message) message_cmp message_cmp same_message no_message n f fs h
+
+pub messages_following : (n : MsgId) (s : BTreeSet Follower) → IsOrdered follower_cmp s → (m : MsgId) → is_in (messages_at n (followers_from n s)) m ≡ contains follower_cmp s (record { before = n; message = m })
+messages_following n s ordered m =
+    members_of (λ (f : Follower). f.before) (λ (f : Follower). f.message) message_cmp message_cmp same_message no_message message_total message_total no_message_first messages_agree (first_follower n) n (λ t. refl) s ordered m
+
+-- ---- the first message that is ready at a vat
+
+abbrev pub first_ready : VatNo → Ready
+first_ready v = record { vat = v; message = no_message }
+
+module _ (q : Waiting) (v : VatNo) where
+  begins : (m : MsgId) → is_gt (ready_cmp (first_ready v) (record { vat = v; message = m })) ≡ false
+  begins m = ap (λ o. is_gt (ordering_then o (message_cmp no_message m))) (tied_itself vat_total v) ∙ no_message_first m
+
+  pub none_ready : IsKeyRangeOf ready_cmp (Included (first_ready v)) Unbounded q.ready [] → FirstAt q v None
+  none_ready r m =
+      none_first (λ (x : Ready). x.vat) (λ (x : Ready). x.message) vat_cmp message_cmp (λ a b. is_eq (vat_cmp a b)) no_message vat_total message_total no_message_first (λ a b. refl) (first_ready v) v (λ t. refl)
+      (λ n. record { vat = v; message = n }) (λ t n. refl) begins q.ready r m
+
+  module _ (k : Ready) (ks : List Ready) (r : IsKeyRangeOf ready_cmp (Included (first_ready v)) Unbounded q.ready (k ∷ ks)) where
+    pub one_ready : k.vat ≡ v → FirstAt q v (Some k.message)
+    one_ready e =
+        let first = one_first (λ (x : Ready). x.vat) (λ (x : Ready). x.message) vat_cmp message_cmp (λ a b. is_eq (vat_cmp a b)) no_message vat_total message_total no_message_first (λ a b. refl) (first_ready v) v (λ t. refl)
+        (λ n. record { vat = v; message = n }) (λ t n. refl) begins q.ready exact_vats k ks r e in
+        (ap (λ x. contains ready_cmp q.ready (record { vat = x; message = k.message })) (sym e) ∙ first.0, first.1)
+
+    pub other_ready : (k.vat ≡ v → ⊥) → FirstAt q v None
+    other_ready apart m =
+        other_first (λ (x : Ready). x.vat) (λ (x : Ready). x.message) vat_cmp message_cmp (λ a b. is_eq (vat_cmp a b)) no_message vat_total message_total no_message_first (λ a b. refl) (first_ready v) v (λ t. refl)
+        (λ n. record { vat = v; message = n }) (λ t n. refl) begins q.ready exact_vats k ks r apart m
 
 -- ---- the promises of an event and a number
 
@@ -181,7 +173,7 @@ module _ (s : BTreeSet Known) (v : VatNo) (e : EventName) (i : ℕ) where
         apart (sym by_vat.0) (sym by_event.0) (sym by_index.0))
 
 -- where nothing comes any more, what was found is all
-pub nothing_more : (found left all : List VatNo) → left ≡ [] → found ++ left ≡ all → found ≡ all
+pub nothing_more : {V : Type 0} (found left all : List V) → left ≡ [] → found ++ left ≡ all → found ≡ all
 nothing_more found left all none whole = sym (append-nil found) ∙ ap (λ xs. found ++ xs) (sym none) ∙ whole
 
 -- what the test of the program finds

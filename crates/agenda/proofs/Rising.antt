@@ -90,7 +90,7 @@ IsOfMessage s = (m : MsgId) × (message_in s ≡ Some m)
 abbrev pub IsOfNone : Step → Type 0
 IsOfNone s = message_in s ≡ None
 
-first_messages : (s t : Step) → IsOfMessage s → IsOfNone t → step_cmp s t ≡ Less
+pub first_messages : (s t : Step) → IsOfMessage s → IsOfNone t → step_cmp s t ≡ Less
 first_messages s t h g = ap₂ (λ o p. step_cmp_by o p (ordering_then (vat_cmp (learn_in s).0 (learn_in t).0) (promise_cmp (learn_in s).1 (learn_in t).1))) h.1 g
 
 pub both_rise : (xs ys : List Step) → Rises xs → Rises ys → AllByRecursion IsOfMessage xs → AllByRecursion IsOfNone ys → Rises (xs ++ ys)
@@ -105,10 +105,6 @@ FirstBelow (s ∷ ss) = AllByRecursion (λ t. step_cmp s t ≡ Less) ss
 pub first_below : (ss : List Step) → Rises ss → FirstBelow ss
 first_below [] h = tt
 first_below (s ∷ ss) h = h.0
-
--- one of those before, if there is one
-pub first_below_both : (x : Step) (xs ys : List Step) → Rises (x ∷ xs) → AllByRecursion IsOfMessage (x ∷ xs) → AllByRecursion IsOfNone ys → FirstBelow ((x ∷ xs) ++ ys)
-first_below_both x xs ys h m n = each_of_both _ xs ys h.0 (each_weaker IsOfNone _ (λ t e. first_messages x t m.0 e) ys n)
 
 pub below : (s t : Step) (ss : List Step) → AllByRecursion (λ u. step_cmp s u ≡ Less) ss → Contains ss t → step_cmp s t ≡ Less
 below s t ss h g = All-contains (λ u. step_cmp s u ≡ Less) ss t (All-from_recursion (λ u. step_cmp s u ≡ Less) ss h) g

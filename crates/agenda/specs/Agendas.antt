@@ -1,23 +1,16 @@
 -- What an agenda has of its world.
-use Rattle.std.specs.Prelude.{◌≡◌, ℕ, Bool, true, false, not, ◌&&◌, is_some, List, Option, Some, None}
+use Rattle.std.specs.Prelude.{◌≡◌, ℕ, Bool, true, false, ◌&&◌, is_some, List, Option, Some, None}
 use Rattle.std.specs.List.{list_any}
 use Rattle.std.specs.Ordering.{is_gt}
 use Rattle.ids.specs.Cells.{promise_cmp}
 use Rattle.ids.specs.CellKeys.{same_key}
 use Rattle.ids.specs.declared.names.EventName.{EventName}
 use Rattle.ids.specs.declared.names.VatNo.{VatNo}
-use Rattle.ids.specs.declared.names.MsgId.{MsgId}
 use Rattle.ids.specs.declared.names.PromId.{PromId}
 use Rattle.ids.specs.declared.cells.CellKey.{CellKey}
 use Rattle.heap.specs.State as heap
 use Rattle.heap.specs.State.{pending, view_cell}
-use Rattle.post.specs.Messages.{Message, is_done}
-use Rattle.worldcells.specs.World.{World, message_of, published_as, vat_state}
-
--- a message is there, and not done
-abbrev pub is_waiting : Option Message → Bool
-is_waiting None = false
-is_waiting (Some g) = not (is_done g.place)
+use Rattle.worldcells.specs.World.{World, published_as, vat_state}
 
 -- a promise has come into a vat, and nothing was learnt of it
 abbrev pub is_open : Option heap.Content → Bool
@@ -31,12 +24,6 @@ open_view w p v = is_open (vat_state w v (view_cell p))
 -- a promise is open in a vat's view, and was published
 abbrev pub can_learn : World → VatNo → PromId → Bool
 can_learn w v p = open_view w p v && is_some (published_as w p)
-
--- the sets of an agenda have just the messages that are not done, the promises that are open in views, and those of them that were published
-pub record Notes (w : World) (waiting : MsgId → Bool) (pendings : PromId → VatNo → Bool) (known : VatNo → PromId → Bool) : Type 0 where
-  pub messages : (m : MsgId) → waiting m ≡ is_waiting (message_of w m)
-  pub views : (p : PromId) (v : VatNo) → pendings p v ≡ open_view w p v
-  pub learns : (v : VatNo) (p : PromId) → known v p ≡ can_learn w v p
 
 -- two worlds are the same in all cells but these
 abbrev pub AlikeBut : List CellKey → World → World → Type 0

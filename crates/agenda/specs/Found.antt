@@ -8,6 +8,9 @@ use Rattle.worldcells.specs.World.{World, message_of}
 use Rattle.event.specs.Forwarding.{onward_of}
 use Rattle.event.specs.Ready.{unready_at}
 use Rattle.agenda.specs.Enabled.{Out}
+use Rattle.agenda.specs.Waiting.{how}
+use Rattle.agenda.specs.declared.waiting.Waits.{Waits}
+use Rattle.agenda.specs.declared.waiting.Waits.TheVariants as waits
 use Rattle.agenda.specs.declared.agenda.Known.{Known}
 use Rattle.agenda.specs.declared.agenda.Agenda.{Agenda}
 use Rattle.agenda.specs.declared.agenda.Step.{Step}
@@ -31,9 +34,26 @@ module _ (w : World) (out : Out) where
   abbrev pub message_step : MsgId → Option Step
   message_step m = step_of m (message_of w m)
 
+  -- the same of one that waits so
+  abbrev pub step_by : MsgId → Waits → Option Step
+  step_by m waits.Moving = message_step m
+  step_by m (waits.Ready v) = cond (out v) None (Some (step.Turn m))
+  step_by m waits.Behind = None
+
   -- what messages can do
   abbrev pub message_steps : Agenda → List Step
-  message_steps a = filter_map message_step a.waiting.keys
+  message_steps a = filter_map (λ e. step_by e.0 e.1) a.waiting.all.entries
+
+  abbrev pub step_if : MsgId → Option Waits → Option Step
+  step_if m None = None
+  step_if m (Some x) = step_by m x
+
+  -- what those at the front can do
+  abbrev pub front_step : Agenda → MsgId → Option Step
+  front_step a m = step_if m (how a.waiting m)
+
+  abbrev pub front_steps : Agenda → List Step
+  front_steps a = filter_map (front_step a) a.waiting.fronts.keys
 
 -- a vat learns what it can learn if no ticket of it is out
 abbrev pub learn_step : Out → Known → Option Step

@@ -1,3 +1,5 @@
+pub mod Waiting
+pub mod Ways
 pub mod Enabled
 pub mod Agendas
 pub mod AgendaView

@@ -2,6 +2,7 @@
 ghost use Rattle.std.specs.Prelude.{◌≡◌, ◌++◌, ◌&&◌, cond, nat_eq, Some, is_none, is_some, IfOk, OnOk};
 ghost use Rattle.std.specs.Option.{option_to_list};
 ghost use Rattle.std.specs.Ordering.{is_eq};
+ghost use Rattle.std.specs.BTreeMap.{IsOrdered as IsOrderedMap};
 ghost use Rattle.std.specs.BTreeSet.{contains, IsOrdered};
 ghost use Rattle.ids.specs.Cells.{message_cmp, promise_cmp, vat_cmp};
 ghost use Rattle.ids.specs.declared.names.VatNo.{VatNo};
@@ -11,21 +12,29 @@ ghost use Rattle.heap.specs.View.{state_of, view_of};
 ghost use Rattle.post.specs.MessageView.{message_of};
 ghost use Rattle.worldcells.specs.View.{world_of};
 ghost use Rattle.worldcells.specs.World.{World as Cells, message_of as message_in_world, vat_state};
-ghost use Rattle.event.specs.Ready.{unready_at};
-ghost use Rattle.agenda.specs.Agendas.{AlikeBut, KnownAs, is_waiting as is_waiting_of, is_open as is_open_of, open_view, can_learn as can_learn_of};
+ghost use Rattle.values.specs.View.{val_of};
+ghost use Rattle.post.specs.DeliveryView.{delivery_of};
+ghost use Rattle.post.specs.Messages.{done_in};
+ghost use Rattle.event.specs.Walks.{is_there as is_there_of};
+ghost use Rattle.event.specs.Ready.{first_undone, unready_at};
+ghost use Rattle.agenda.specs.Agendas.{AlikeBut, KnownAs, is_open as is_open_of, open_view, can_learn as can_learn_of};
+ghost use Rattle.agenda.specs.Ways.{only_turns, stays as stays_of, waits_here, waits_in};
 ghost use Rattle.agenda.specs.Enabled.{Enabled, First};
 ghost use Rattle.agenda.specs.AgendaView.{out_at};
-ghost use Rattle.agenda.specs.Found.{step_at as step_at_vat, message_step as message_step_of, learn_step};
+ghost use Rattle.agenda.specs.Found.{step_at as step_at_vat, message_step as message_step_of, step_by as step_by_way, learn_step};
 
+use crate::waiting::{Waiting, Waits};
 use desk::desk::Desk;
 use event::forwarding::onward;
 use event::ready::{Delay, check_ready};
 use heap::state::{VatState, View};
 use ids::cells::CellKey;
 use ids::names::{EventName, MsgId, PromId, VatNo};
+use post::delivery::Delivery;
 use post::message::{Message, Place};
 use std::alloc::{AllocError, Global};
 use std::collections::BTreeSet;
+use values::value::Value;
 use worldcells::world::World;
 
 /// Something that may be done.
@@ -55,24 +64,35 @@ struct Known {
     promise: PromId,
 }
 
-/// The messages of a world that are not done, the promises that are open in views, and those of them that were published.
+/// A message that can do nothing but have its turn where it is, and one that it comes after.
+#[derive(Clone, Copy, PartialEq, Eq, PartialOrd, Ord)]
+struct Follower {
+    before: MsgId,
+    message: MsgId,
+}
+
+/// The messages of a world that are not done, by how they wait, the promises that are open in views, and those of them that were
+/// published.
 #[derive(Drop)]
 pub struct Agenda {
-    waiting: BTreeSet<MsgId>,
+    waiting: Waiting,
+    /// By the message that they come after: how such a one waits is looked at again when that one changes.
+    followers: BTreeSet<Follower>,
     open: BTreeSet<Open>,
     known: BTreeSet<Known>,
 }
 
 impl Agenda {
-    ghost use Rattle.agenda.specs.AgendaView.{open_cmp, known_cmp, has_message, has_open, has_known, is_among, same_view, NotedIn, NotesMessages, NotesViews, NotesCell};
-    ghost use Rattle.agenda.specs.Found.{message_steps, learn_steps, first_in};
+    ghost use Rattle.agenda.specs.AgendaView.{open_cmp, known_cmp, has_follower, has_open, has_known, is_among, is_in, same_view, NotedIn, Follows, FollowsEach, Renews, Places, PlacesAll, NotesMessage, NotesViews, NotesCell};
+    ghost use Rattle.agenda.specs.Found.{front_step, front_steps, message_steps, learn_steps, first_in};
 
     /// What is not done in this world. Fails only for want of memory.
     pub fn new(alloc: Global, world: &World) -> Result<Agenda, AllocError>
         ensures { IfOk result (NotedIn (world_of world.now)) }
     {
         let mut agenda = Agenda {
-            waiting: BTreeSet::new(alloc),
+            waiting: Waiting::new(alloc),
+            followers: BTreeSet::new(alloc),
             open: BTreeSet::new(alloc),
             known: BTreeSet::new(alloc),
         };
@@ -101,7 +121,7 @@ impl Agenda {
         ensures { OnOk result (NotesCell (world_of world.now) key.now self.old self.new) }
     {
         match key {
-            CellKey::Msg(name) => self.note_message(world, *name),
+            CellKey::Msg(name) => self.note_message(alloc, world, *name),
             CellKey::View(vat, promise) => self.note_view(world, *vat, *promise),
             CellKey::Board(promise) => self.note_publication(alloc, world, *promise),
             CellKey::Name(_)
@@ -112,22 +132,88 @@ impl Agenda {
         }
     }
 
-    /// Notes of all messages whether they are not done.
+    /// Notes of all messages how they wait.
     fn note_messages(&mut self, alloc: Global, world: &World) -> Result<(), AllocError>
-        ensures { OnOk result (NotesMessages (world_of world.now) (λ m. is_some (message_in_world (world_of world.now) m)) self.old self.new) }
+        ensures { OnOk result (PlacesAll (world_of world.now) (λ m. is_some (message_in_world (world_of world.now) m)) self.old self.new) }
     {
         let messages = world.messages(alloc)?;
         for (name, _) in messages.iter() {
-            self.note_message(world, *name)?;
+            self.place(world, *name)?;
         }
         Ok(())
     }
 
-    /// Notes whether a message is there and not done.
-    fn note_message(&mut self, world: &World, name: MsgId) -> Result<(), AllocError>
-        ensures { OnOk result (NotesMessages (world_of world.now) (λ m. is_eq (message_cmp name m)) self.old self.new) }
+    /// Notes how a message waits, and anew how those wait that come after it.
+    fn note_message(&mut self, alloc: Global, world: &World, name: MsgId) -> Result<(), AllocError>
+        ensures { OnOk result (NotesMessage (world_of world.now) name self.old self.new) }
     {
-        keep(&mut self.waiting, name, is_waiting(world, name))
+        self.place(world, name)?;
+        for follower in self.followers_of(alloc, name)? {
+            self.renew(world, follower)?;
+        }
+        Ok(())
+    }
+
+    /// Notes how a message waits, and after which ones it comes.
+    fn place(&mut self, world: &World, name: MsgId) -> Result<(), AllocError>
+        ensures { OnOk result (Places (world_of world.now) name self.old self.new) }
+    {
+        self.follow(world, name)?;
+        self.renew(world, name)
+    }
+
+    /// Notes how a message waits.
+    fn renew(&mut self, world: &World, name: MsgId) -> Result<(), AllocError>
+        ensures { OnOk result (Renews (world_of world.now) (λ m. is_eq (message_cmp name m)) self.old self.new) }
+    {
+        self.waiting.put(name, waits(world, name))
+    }
+
+    /// Notes after which ones a message comes that hangs on nothing else.
+    fn follow(&mut self, world: &World, name: MsgId) -> Result<(), AllocError>
+        ensures { OnOk result (Follows (world_of world.now) name self.old self.new) }
+    {
+        match world.message(name) {
+            Some(message) => {
+                self.follow_each(name, message.sent.after.names(), has_only_a_turn(message))
+            }
+            None => Ok(()),
+        }
+    }
+
+    /// Notes of a message whether it follows each of these.
+    fn follow_each(&mut self, name: MsgId, names: &[MsgId], follows: bool) -> Result<(), AllocError>
+        ensures { OnOk result (FollowsEach name names.now follows self.old self.new) }
+    {
+        for before in names {
+            let follower = Follower {
+                before: *before,
+                message: name,
+            };
+            keep(&mut self.followers, follower, follows)?;
+        }
+        Ok(())
+    }
+
+    /// Those that follow a message.
+    fn followers_of(&self, alloc: Global, before: MsgId) -> Result<Vec<MsgId>, AllocError>
+        ensures { IfOk result (λ names. (m : MsgId) → is_in names.items m ≡ has_follower self.now before m) }
+    {
+        let mut names = Vec::new(alloc);
+        let first = Follower {
+            before,
+            message: MsgId {
+                event: EventName(0),
+                index: 0,
+            },
+        };
+        for follower in self.followers.range(first..) {
+            if follower.before != before {
+                return Ok(names);
+            }
+            names.push(follower.message)?;
+        }
+        Ok(names)
     }
 
     /// Notes all views of all vats.
@@ -233,22 +319,38 @@ impl Agenda {
         }
     }
 
-    /// The first that a message can do.
+    /// The first that a message can do: at each vat only the first is looked at of those that are ready there.
     fn first_of_messages(
         &self,
         alloc: Global,
         world: &World,
         desk: &Desk,
     ) -> Result<Option<Step>, AllocError>
-        ensures first { IfOk result (λ step. step ≡ first_in (message_steps (world_of world.now) (out_at desk.now) self.now)) }
-        ensures ordered { IsOrdered message_cmp self.now.waiting }
+        ensures first { IfOk result (λ step. step ≡ first_in (front_steps (world_of world.now) (out_at desk.now) self.now)) }
+        ensures ordered { IsOrdered message_cmp self.now.waiting.fronts }
     {
-        for name in self.waiting.iter() {
-            if let Some(step) = message_step(alloc, world, *name, desk)? {
+        for name in self.waiting.fronts.iter() {
+            if let Some(step) = self.front_step(alloc, world, *name, desk)? {
                 return Ok(Some(step));
             }
         }
         Ok(None)
+    }
+
+    /// What a message at the front can do.
+    fn front_step(
+        &self,
+        alloc: Global,
+        world: &World,
+        name: MsgId,
+        desk: &Desk,
+    ) -> Result<Option<Step>, AllocError>
+        ensures { IfOk result (λ step. step ≡ front_step (world_of world.now) (out_at desk.now) self.now name) }
+    {
+        match self.waiting.get(name) {
+            Some(waits) => step_by(alloc, world, name, waits, desk),
+            None => Ok(None),
+        }
     }
 
     /// The first that a vat can learn.
@@ -283,10 +385,10 @@ impl Agenda {
         steps: &mut Vec<Step>,
     ) -> Result<(), AllocError>
         ensures added { OnOk result (steps.new.items ≡ steps.old.items ++ message_steps (world_of world.now) (out_at desk.now) self.now) }
-        ensures ordered { IsOrdered message_cmp self.now.waiting }
+        ensures ordered { IsOrderedMap message_cmp self.now.waiting.all }
     {
-        for name in self.waiting.iter() {
-            add_step(message_step(alloc, world, *name, desk)?, steps)?;
+        for (name, waits) in self.waiting.all.iter() {
+            add_step(step_by(alloc, world, *name, *waits, desk)?, steps)?;
         }
         Ok(())
     }
@@ -316,14 +418,92 @@ fn keep<T: Ord + Drop>(set: &mut BTreeSet<T>, item: T, stays: bool) -> Result<()
     }
 }
 
-/// Whether a message is there and not done.
-fn is_waiting(world: &World, name: MsgId) -> bool
-    ensures { result ≡ is_waiting_of (message_in_world (world_of world.now) name) }
+/// How a message waits, if it is there and not done.
+fn waits(world: &World, name: MsgId) -> Option<Waits>
+    ensures { result ≡ waits_in (world_of world.now) name }
 {
     match world.message(name) {
         Some(message) => match message.place {
-            Place::Flying(_) | Place::At(_) => true,
-            Place::Done(_) => false,
+            Place::Flying(_) => Some(Waits::Moving),
+            Place::At(vat) => Some(waits_at(world, message, vat)),
+            Place::Done(_) => None,
+        },
+        None => None,
+    }
+}
+
+/// How a message waits at a vat.
+fn waits_at(world: &World, message: &Message, vat: VatNo) -> Waits
+    ensures { result ≡ waits_here (world_of world.now) vat (message_of message.now) }
+{
+    if !stays(&message.sent.delivery, vat) {
+        return Waits::Moving;
+    }
+    if are_done(world, message.sent.after.names()) {
+        Waits::Ready(vat)
+    } else {
+        Waits::Behind
+    }
+}
+
+/// Whether a message is at a vat and can do nothing but have its turn there.
+fn has_only_a_turn(message: &Message) -> bool
+    ensures { result ≡ only_turns (message_of message.now) (message_of message.now).place }
+{
+    match message.place {
+        Place::At(vat) => stays(&message.sent.delivery, vat),
+        Place::Flying(_) | Place::Done(_) => false,
+    }
+}
+
+/// Whether a delivery is made in this vat whatever is published or learnt: a call on what is there, an opening, or a question.
+fn stays(delivery: &Delivery, vat: VatNo) -> bool
+    ensures { result ≡ stays_of vat (delivery_of delivery.now) }
+{
+    match delivery {
+        Delivery::Sent(call) => is_there(&call.target, vat),
+        Delivery::Opening(_, _) | Delivery::Asked(_) => true,
+        Delivery::Waiting(_) => false,
+    }
+}
+
+/// Whether a call on this is made in this vat.
+fn is_there(target: &Value, vat: VatNo) -> bool
+    ensures { result ≡ is_there_of vat (val_of target.now) }
+{
+    match target {
+        Value::Object(object) => object.vat == vat,
+        Value::Ejector(ejector) => ejector.vat == vat,
+        Value::Promise(_) => false,
+        Value::Null
+        | Value::Bool(_)
+        | Value::Int(_)
+        | Value::Text(_)
+        | Value::List(_)
+        | Value::Broken(_) => true,
+    }
+}
+
+/// Whether all these messages are done.
+fn are_done(world: &World, names: &[MsgId]) -> bool
+    ensures { result ≡ is_none (first_undone (world_of world.now) names.now) }
+{
+    for name in names {
+        if !is_done(world, *name) {
+            return false;
+        }
+    }
+    true
+}
+
+/// Whether a message is there and done.
+fn is_done(world: &World, name: MsgId) -> bool
+    ensures { result ≡ done_in (message_in_world (world_of world.now) name) }
+{
+    match world.message(name) {
+        Some(message) => match message.place {
+            Place::Flying(_) | Place::At(_) => false,
+            Place::Done(_) => true,
         },
         None => false,
     }
@@ -383,6 +563,23 @@ fn add_step(step: Option<Step>, steps: &mut Vec<Step>) -> Result<(), AllocError>
             Ok(())
         }
         None => Ok(()),
+    }
+}
+
+/// What a message can do that waits so.
+fn step_by(
+    alloc: Global,
+    world: &World,
+    name: MsgId,
+    waits: Waits,
+    desk: &Desk,
+) -> Result<Option<Step>, AllocError>
+    ensures { IfOk result (λ step. step ≡ step_by_way (world_of world.now) (out_at desk.now) name waits) }
+{
+    match waits {
+        Waits::Moving => message_step(alloc, world, name, desk),
+        Waits::Ready(vat) => Ok((!desk.has_vat(vat)).then_some(Step::Turn(name))),
+        Waits::Behind => Ok(None),
     }
 }
 

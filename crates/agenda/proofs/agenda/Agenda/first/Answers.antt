@@ -11,4 +11,4 @@ returns-in-Some c = λ notes. first_message (world_of c.args.world.now) (out_at 
 pub returns-in-None : goal.returns-in-None
 returns-in-None c = λ notes.
     subst (First (world_of c.args.world.now) (out_at c.args.desk.now)) (sym c.first_learning.ensures.first)
-    (first_learnt (world_of c.args.world.now) (out_at c.args.desk.now) c.args.self.now notes c.first_learning.ensures.ordered (sym c.in-None.is ∙ c.in_ok-step.ensures.first))
+    (first_learnt (world_of c.args.world.now) (out_at c.args.desk.now) c.args.self.now notes c.first_of_messages.ensures.ordered c.first_learning.ensures.ordered (sym c.in-None.is ∙ c.in_ok-step.ensures.first))

@@ -2,9 +2,9 @@ use Rattle.std.proofs.Common.{◌≡◌}
 use Rattle.std.specs.List.{filter_map}
 use Rattle.worldcells.specs.View.{world_of}
 use Rattle.agenda.specs.AgendaView.{out_at}
-use Rattle.agenda.specs.Found.{message_step, message_steps, first_in}
+use Rattle.agenda.specs.Found.{front_step, front_steps, first_in}
 use Rattle.agenda.proofs.agenda.Agenda.first_of_messages.Given as goal
 
 -- nothing was found so far
 abbrev pub invariant-loop-name : goal.invariant-loop-name
-invariant-loop-name l = first_in (filter_map (message_step (world_of l.world) (out_at l.desk)) l.name-iterator) ≡ first_in (message_steps (world_of l.world) (out_at l.desk) l.self)
+invariant-loop-name l = first_in (filter_map (front_step (world_of l.world) (out_at l.desk) l.self) l.name-iterator) ≡ first_in (front_steps (world_of l.world) (out_at l.desk) l.self)

@@ -1,15 +1,18 @@
-use Rattle.std.proofs.Common.{◌∙◌}
+use Rattle.std.proofs.Common.{refl, ◌∙◌}
 use Rattle.std.specs.Map.Iter.{deref_pair}
 use Rattle.std.specs.Ordering.{is_eq}
 use Rattle.std.proofs.lemmas.Map.Iter.{iter_end}
 use Rattle.ids.specs.Cells.{message_cmp}
 use Rattle.worldcells.specs.View.{world_of}
-use Rattle.agenda.proofs.Noting.{more_messages, told_messages, one_more}
+use Rattle.agenda.proofs.Noting.{no_messages, more_messages, told_messages, one_more}
 use Rattle.agenda.proofs.Noted.{all_messages}
 use Rattle.agenda.proofs.agenda.Agenda.note_messages.Goals as goal
 
+pub loop-name-init : goal.loop-name-init
+loop-name-init c = no_messages _ _ _ (λ m. refl)
+
 pub loop-name-preserved : goal.loop-name-preserved
-loop-name-preserved c = more_messages _ _ _ _ _ _ _ c.loop-name.invariant c.in_ok-note_message.ensures (λ m. one_more (λ e. is_eq (message_cmp e.0.now m)) c.loop-name.yielded (c.in-Some.name, c.in-Some.field-0-1))
+loop-name-preserved c = more_messages _ _ _ _ _ _ _ c.loop-name.invariant c.in_ok-place.ensures (λ m. one_more (λ e. is_eq (message_cmp e.0.now m)) c.loop-name.yielded (c.in-Some.name, c.in-Some.field-0-1))
 
 pub returns : goal.returns
 returns c =
