@@ -1,4 +1,4 @@
-use Rattle.std.proofs.Common.{ap, subst}
+use Rattle.std.proofs.Common.{ap, subst, sym, ◌∙◌}
 use Rattle.std.specs.Prelude.{IfOk}
 use Rattle.history.specs.Records.{contents}
 use Rattle.worldcells.specs.Theory.{cells}
@@ -8,3 +8,6 @@ use Rattle.book.proofs.book.Book.agenda.Goals as goal
 
 pub returns-in-None-clause-noted : goal.returns-in-None-clause-noted
 returns-in-None-clause-noted c = subst (λ (w : World). IfOk c.new.result (NotedIn w)) (ap (contents cells) c.world.ensures) c.new.ensures
+
+pub returns-in-Some-clause-noted : goal.returns-in-Some-clause-noted
+returns-in-Some-clause-noted c = c.args.self.now.noted c.in-Some.agenda (sym c.take.ensures.value ∙ c.in-Some.is)
