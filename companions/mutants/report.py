@@ -4,6 +4,7 @@ from dataclasses import dataclass, field
 
 SAID = re.compile(r"(?:fn|impl|struct|enum|trait) (\S+): (.*)")
 AT = re.compile(r"(?:so far: )?(?:note: )?(?:\./)?(\S+?):(\d+):\d+: (.*)")
+SEVERAL = re.compile(r"several functions are named `(\w+)`: help: write one of (.*)")
 PROVED = ("proved", "no holes")
 GOT_THROUGH = "got through"
 NOT_COMPILED = "cannot be applied or compiled"
@@ -42,6 +43,12 @@ class Report:
 def functions_said(log):
     """What a log says of each function, by its path."""
     return {told[1]: told[2] for told in map(SAID.match, log.splitlines()) if told}
+
+
+def shared_name(log):
+    """The name of which a log says that several functions have it, with their paths, if it says so."""
+    told = SEVERAL.search(log)
+    return (told[1], re.findall(r"`([^`]+)`", told[2])) if told else None
 
 
 def is_of(path, name):

@@ -7,7 +7,7 @@ from pathlib import Path
 from .changes import NoSuchRevision, stands_on, to_be_tried
 from .contracts import contract_text
 from .edits import BadEdit, Change, Edit, Function, changed, changes_of, functions_in, groups, read
-from .report import report_of, verdict_on
+from .report import report_of, shared_name, verdict_on
 from .trial import copied, tried
 
 SOURCE = """\
@@ -70,6 +70,9 @@ wrong = {"twice": "x - y" in text, "sum": False, "nothing": False}
 if "let y = 1" in text:
     print("error[syntax]: src/lib.rt:13:9: not read"); sys.exit(1)
 names = [name for word, name in zip(words, words[1:]) if word == "--only"] or list(wrong)
+if "sum" in words:
+    print("rattle: error: several functions are named `sum`: help: write one of `high::Pair::sum`, `high::Other::sum`"); sys.exit(2)
+names = [name.split("::")[-1] for name in names]
 for name in names:
     if wrong[name]:
         print("so far: note: src/lib.rt:14:5: it is not proved that what the function ensures holds (`returns`)")
@@ -212,6 +215,12 @@ class Verdicts(unittest.TestCase):
         self.assertTrue(self.verdict("error[syntax]: src/lib.rt:3:1: no\n").is_open)
 
 
+    def test_a_name_that_several_have(self):
+        log = "rattle: error: several functions are named `put`: help: write one of `high::one::One::put`, `high::two::Two::put`"
+        self.assertEqual(shared_name(log), ("put", ["high::one::One::put", "high::two::Two::put"]))
+        self.assertIsNone(shared_name("fn high::twice: proved\n"))
+
+
 class Trial(unittest.TestCase):
     def setUp(self):
         folder = tempfile.TemporaryDirectory()
@@ -243,7 +252,8 @@ class Trial(unittest.TestCase):
 
     def test_different_functions_in_one_check(self):
         found, said, log = self.tried("one", "two")
-        self.assertEqual(log, ["lib", "check --only sum --only twice", "check --only sum"])
+        both = "--only high::Pair::sum --only high::Other::sum"
+        self.assertEqual(log, ["lib", "check --only sum --only twice", f"check --only twice {both}", "check --only sum", f"check {both}"])
         self.assertEqual({name: it.fault for name, it in found.items()}, {"high/one": None, "high/two": "got through"})
         self.assertEqual(said[-1], "high: tried 2 of 2")
         report = report_of(found)
@@ -252,7 +262,7 @@ class Trial(unittest.TestCase):
 
     def test_what_does_not_compile_is_told_alone(self):
         found, _, log = self.tried("two", "three")
-        self.assertEqual(log[1:], ["check --only sum --only twice", "check --only twice", "check --only sum"])
+        self.assertEqual(log[1:3], ["check --only sum --only twice", "check --only twice"])
         self.assertEqual(found["high/three"].fault, "cannot be applied or compiled")
 
     def test_what_changes_a_type_takes_a_whole_check(self):

@@ -7,7 +7,7 @@ from pathlib import Path
 from building.processes import ending, start
 
 from .edits import BadEdit, changed, groups, read
-from .report import NOT_COMPILED, Verdict, verdict_on
+from .report import NOT_COMPILED, Verdict, shared_name, verdict_on
 
 
 def mutants_of(root, crate):
@@ -57,10 +57,17 @@ class Bench:
             after = changed(after, edit.changes)
         self.write(after)
         try:
-            names = sorted(set().union(*(edit.names for edit in edits)))
-            return self.run("check", *(word for name in names for word in ("--only", name)))
+            return self.check_only(sorted(set().union(*(edit.names for edit in edits))))
         finally:
             self.write(self.sources)
+
+    def check_only(self, names):
+        """What a check says of the functions of these names: of all that have a name, where there are several."""
+        log, status = self.run("check", *(word for name in names for word in ("--only", name)))
+        shared = shared_name(log)
+        if shared and shared[0] in names:
+            return self.check_only([name for name in names if name != shared[0]] + shared[1])
+        return log, status
 
     def verdicts(self, edits):
         """What came of each edit. Where a check of several says nothing of one, that one is tried alone."""
