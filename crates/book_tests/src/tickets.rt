@@ -42,6 +42,11 @@ pub(crate) fn checkout(
     }
 }
 
+/// Lets a ticket that is out go, by its number.
+fn abandon(rt: &impl Abort, book: &mut Book, number: u64) {
+    assert!(rt; book.abandon(EventName(number)).is_ok());
+}
+
 /// The same ticket, once its turn was run.
 pub(crate) fn run(rt: &impl Abort, ticket: Ticket<Out>) -> Ticket<Ran> {
     match ticket.run() {
@@ -246,23 +251,29 @@ fn one_ticket_of_a_vat(rt: HostRuntime) {
     expect_journal(&rt, &book, &BEGUN);
 }
 
-/// A ticket is refused once its number was let go, and a book refuses the ticket of another one that goes by the same number.
+/// A ticket is refused once its number was let go.
 #[test]
-fn strange_tickets(rt: HostRuntime) {
+fn a_ticket_that_was_let_go(rt: HostRuntime) {
     let mut book = asked(&rt, "n := 1");
-    let mut other = asked(&rt, "n := 2");
     let ticket = checkout(&rt, &mut book, 3, 5);
     let ran = run(&rt, ticket);
-    assert!(rt; book.abandon(EventName(5)).is_ok());
+    abandon(&rt, &mut book, 5);
     refuse_strange(&rt, &mut book, ran);
     checkout(&rt, &mut book, 3, 6).discard();
-    assert!(rt; book.abandon(EventName(6)).is_ok());
+    expect_journal(&rt, &book, &BEGUN);
+}
+
+/// A book refuses the ticket of another one that goes by the same number.
+#[test]
+fn a_ticket_of_another_book(rt: HostRuntime) {
+    let mut book = asked(&rt, "n := 1");
+    let mut other = asked(&rt, "n := 2");
     checkout(&rt, &mut other, 3, 5).discard();
-    assert!(rt; other.abandon(EventName(5)).is_ok());
+    abandon(&rt, &mut other, 5);
     checkout(&rt, &mut other, 3, 6).discard();
-    assert!(rt; other.abandon(EventName(6)).is_ok());
-    checkout(&rt, &mut other, 3, 7).discard();
-    let same_number = checkout(&rt, &mut book, 3, 7);
+    checkout(&rt, &mut book, 3, 5).discard();
+    abandon(&rt, &mut book, 5);
+    let same_number = checkout(&rt, &mut book, 3, 6);
     let ran = run(&rt, same_number);
     refuse_strange(&rt, &mut other, ran);
     expect_journal(&rt, &book, &BEGUN);
