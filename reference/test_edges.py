@@ -25,7 +25,7 @@ class Limits(unittest.TestCase):
 
 class Edges(unittest.TestCase):
     # Some of it would keep the interpreter for long.
-    @patch.object(running, "SECONDS", 5)
+    @patch.object(running, "SECONDS", 2)
     def test_a_program_that_does_otherwise_is_told(self):
         is_failed, said = told(["edges"], FAKE)
         self.assertTrue(is_failed)
