@@ -21,11 +21,13 @@ class Verdict:
 
     fault: str | None
     said: str = ""
+    # A function that is refused may be so for what it calls, which another wrong body of the same check may have changed.
+    leans_on_others: bool = False
 
     @property
     def is_open(self):
         """Whether a check of this one alone may say more."""
-        return self.fault in (NOT_COMPILED, GOT_THROUGH)
+        return self.leans_on_others or self.fault in (NOT_COMPILED, GOT_THROUGH)
 
 
 @dataclass
@@ -77,7 +79,8 @@ def verdict_on(edit, log, status):
     if is_refused:
         first = (complaints(edit, log) or [""])[0]
         fault = next((fault for words, fault in FAULTS if re.search(words, first)), None)
-        return Verdict(fault, first)
+        leans = any("it calls `" in what or "of this cycle" in what for what in said.values())
+        return Verdict(fault, first, leans)
     if said and status in (0, 1) or not edit.functions and status == 0:
         return Verdict(GOT_THROUGH, "it is still proved")
     errors = [line for line in log.splitlines() if "error" in line]

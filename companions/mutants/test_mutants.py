@@ -205,6 +205,11 @@ class Verdicts(unittest.TestCase):
         self.assertEqual(self.verdict("fn high::sum: not proved\nfn high::twice: proved\n").fault, "got through")
         self.assertIsNone(self.verdict("fn high::fn::twice::map: not proved\nfn high::twice: proved\n").fault)
 
+    def test_a_refusal_that_may_be_anothers(self):
+        own = self.verdict("fn high::twice: not proved\n")
+        others = self.verdict("fn high::twice: not proved; it calls `high::sum`, which is not proved\n")
+        self.assertEqual((own.is_open, others.is_open), (False, True))
+
     def test_what_shows_little(self):
         proof = "./proofs/twice/Answers.antt:4:2: error: `twice-returns`: record `Rattle.high` has no field `one`\nfn high::twice: not proved\n"
         self.assertIn("shows little", self.verdict(proof).fault)

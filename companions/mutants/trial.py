@@ -70,7 +70,7 @@ class Bench:
         return log, status
 
     def verdicts(self, edits):
-        """What came of each edit. Where a check of several says nothing of one, that one is tried alone."""
+        """What came of each edit. Where a check of several does not tell of one for itself, that one is tried alone."""
         log, status = self.check(edits)
         found = {edit.name: verdict_on(edit, log, status) for edit in edits}
         if len(edits) > 1:
