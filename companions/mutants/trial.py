@@ -6,6 +6,7 @@ from pathlib import Path
 
 from building.processes import ending, start
 
+from .changes import stands_on
 from .edits import BadEdit, changed, groups, read
 from .report import NOT_COMPILED, Verdict, shared_name, verdict_on
 
@@ -15,18 +16,29 @@ def mutants_of(root, crate):
     return [f"{crate}/{file.stem}" for file in sorted(Path(root, "crates", crate, "mutants").glob("*.edit"))]
 
 
+def below(root, crates):
+    """These crates, and all that they stand on."""
+    uses, found, waiting = stands_on(Path(root, "crates.txt").read_text()), set(), list(crates)
+    while waiting:
+        name = waiting.pop()
+        if name not in found:
+            found.add(name)
+            waiting += uses.get(name, [])
+    return found
+
+
 def copied(root, to, crates):
-    """Copies what a check reads, with what earlier checks kept: of all crates their libraries, of these all that is kept."""
+    """Copies what a check reads, with what earlier checks kept: of these crates all, of those that they stand on the libraries."""
     for name in ("crates.txt", "HANDLES"):
         shutil.copy2(Path(root, name), to)
     shutil.copytree(Path(root, "crates"), Path(to, "crates"), ignore=shutil.ignore_patterns("out", "must-fail"))
-    for folder in Path(root, "crates").iterdir():
-        for part in ("rlib", "incremental") if folder.name in crates else ("rlib",):
-            kept = folder / "out" / part
+    for name in below(root, crates):
+        for part in ("rlib", "incremental") if name in crates else ("rlib",):
+            kept = Path(root, "crates", name, "out", part)
             # What another check changes meanwhile is made anew.
-            with contextlib.suppress(OSError, shutil.Error):
+            with contextlib.suppress(shutil.Error):
                 if kept.is_dir():
-                    shutil.copytree(kept, Path(to, "crates", folder.name, "out", part), symlinks=True)
+                    shutil.copytree(kept, Path(to, "crates", name, "out", part), symlinks=True)
 
 
 class Bench:
