@@ -104,7 +104,7 @@ impl<L: Shift> WorkDesk<L> {
             Pick::Nothing => {}
             Pick::Moved(_) => self.untouched = false,
             Pick::Turn(ticket) => {
-                let number = ticket.out().event.0;
+                let number = u64::from(ticket.out().event.0);
                 self.first = first_lent(self.first, self.behind, number);
                 self.behind = number + 1;
                 self.left -= 1;
@@ -157,7 +157,7 @@ impl<L: Shift> WorkDesk<L> {
         } = self;
         let mut book = desk.into_book();
         for number in first..behind {
-            let _ = book.abandon(EventName(number));
+            let _ = book.abandon(EventName(number as u32));
         }
         journals_are_good(&book);
         (book, given, untouched)

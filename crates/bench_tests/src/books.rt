@@ -24,7 +24,7 @@ pub(crate) fn program(rt: &(impl Abort + AllocGlobal), text: &str) -> Program {
 }
 
 /// A message of an event, by its number.
-pub(crate) fn message_of(event: u64, index: u32) -> MsgId {
+pub(crate) fn message_of(event: u32, index: u32) -> MsgId {
     MsgId {
         event: EventName(event),
         index,
@@ -32,11 +32,11 @@ pub(crate) fn message_of(event: u64, index: u32) -> MsgId {
 }
 
 /// The first message of an event.
-pub(crate) fn message(event: u64) -> MsgId {
+pub(crate) fn message(event: u32) -> MsgId {
     message_of(event, 0)
 }
 
-pub(crate) fn vat(event: u64) -> VatNo {
+pub(crate) fn vat(event: u32) -> VatNo {
     VatNo(EventName(event))
 }
 
@@ -47,7 +47,7 @@ pub(crate) fn birth(
     vat: &str,
     earlier: &[&str],
     script: &str,
-    event: u64,
+    event: u32,
 ) {
     let mut names = Vec::new(rt.alloc());
     for other in earlier {
@@ -65,7 +65,7 @@ pub(crate) fn ask(
     book: &mut Book,
     vat: &str,
     text: &str,
-    event: u64,
+    event: u32,
 ) {
     match book.ask(&name(rt, vat), program(rt, text)) {
         Ok(asked) => assert!(rt; asked == EventName(event)),
@@ -74,7 +74,7 @@ pub(crate) fn ask(
 }
 
 /// Runs the turn of a message, and its number is this.
-pub(crate) fn turn(rt: &impl Abort, book: &mut Book, message: MsgId, event: u64) {
+pub(crate) fn turn(rt: &impl Abort, book: &mut Book, message: MsgId, event: u32) {
     match book.turn(message, BUDGET) {
         Ok(turned) => assert!(rt; turned.event == EventName(event)),
         Err(fault) => panic!(rt; "turn: {fault}"),
@@ -82,7 +82,7 @@ pub(crate) fn turn(rt: &impl Abort, book: &mut Book, message: MsgId, event: u64)
 }
 
 /// A message arrives, and the number of that is this.
-pub(crate) fn arrive(rt: &impl Abort, book: &mut Book, message: MsgId, event: u64) {
+pub(crate) fn arrive(rt: &impl Abort, book: &mut Book, message: MsgId, event: u32) {
     match book.arrive(message) {
         Ok(arrived) => assert!(rt; arrived == EventName(event)),
         Err(fault) => panic!(rt; "arrive: {fault}"),
@@ -93,8 +93,8 @@ pub(crate) fn arrive(rt: &impl Abort, book: &mut Book, message: MsgId, event: u6
 const NAMES: [&str; 4] = ["a", "b", "c", "d"];
 
 /// One question of `1` to each of as many vats as this, at most four.
-fn ask_each(rt: &(impl Abort + AllocGlobal), book: &mut Book, vats: u64) {
-    let mut place = 0u64;
+fn ask_each(rt: &(impl Abort + AllocGlobal), book: &mut Book, vats: u32) {
+    let mut place = 0u32;
     for vat in NAMES {
         place = place.wrapping_add(1);
         if place <= vats {
@@ -105,7 +105,7 @@ fn ask_each(rt: &(impl Abort + AllocGlobal), book: &mut Book, vats: u64) {
 }
 
 /// As many vats as this, at most four, which have run their empty scripts, with one question of `1` to each. The questions are the last events.
-pub(crate) fn asked(rt: &(impl Abort + AllocGlobal), vats: u64) -> Book {
+pub(crate) fn asked(rt: &(impl Abort + AllocGlobal), vats: u32) -> Book {
     assert!(rt; vats <= 4);
     let mut book = Book::new(rt.alloc());
     for (place, vat) in (1..=vats).zip(NAMES) {

@@ -30,7 +30,7 @@ fn checkout<L: Opening>(
     rt: &(impl Wait + Abort),
     bench: &Bench<L>,
     seat: &mut Seat<L>,
-    event: u64,
+    event: u32,
 ) -> Ticket<Out> {
     match bench.checkout(rt, seat) {
         Ok(Pick::Turn(ticket)) => {
@@ -63,7 +63,7 @@ pub(crate) fn give<L: Opening>(
     bench: &Bench<L>,
     ticket: Ticket<Ran>,
     seat: &mut Seat<L>,
-    event: u64,
+    event: u32,
 ) {
     match bench.give(rt, ticket, seat) {
         Ok(entered) => assert!(rt; entered == EventName(event)),
@@ -123,7 +123,7 @@ pub(crate) fn author<L: Opening>(
     bench: &Bench<L>,
     command: Command,
     seat: &mut Seat<L>,
-    event: Option<u64>,
+    event: Option<u32>,
 ) {
     match bench.author(rt, command, seat) {
         Ok(entered) => assert!(rt; entered == event.map(EventName)),
@@ -136,7 +136,7 @@ fn ask_alice(rt: &(impl Abort + AllocGlobal)) -> Command {
 }
 
 /// These events alone.
-fn events(rt: &(impl Abort + AllocGlobal), event: u64) -> Vec<EventName> {
+fn events(rt: &(impl Abort + AllocGlobal), event: u32) -> Vec<EventName> {
     let mut events = Vec::new(rt.alloc());
     events.push(EventName(event)).expect(rt, "no memory");
     events

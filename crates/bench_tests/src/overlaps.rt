@@ -27,7 +27,7 @@ use worldcells::event::Action;
 struct Reverse<'a, R: Clock> {
     rt: &'a R,
     /// The event that asked the first question.
-    first: u64,
+    first: u32,
     ran: &'a [AtomicBool],
     gave_up: AtomicBool,
 }
@@ -62,7 +62,7 @@ fn expect_reversed(rt: &impl Abort, book: &Book, vats: usize) {
     assert!(rt; vats <= 4);
     let entries = book.journal().entries;
     assert!(rt; entries.len() == 4 * vats);
-    let mut question = 3 * vats as u64;
+    let mut question = 3 * vats as u32;
     for entry in entries.iter().skip(3 * vats) {
         assert!(rt; entry.mark == Mark::Live);
         assert!(rt; entry.seat > 0);
@@ -97,7 +97,7 @@ fn overlap<L: Opening + Send + Sync, R: Threads + Wait + Clock + Abort + AllocGl
     };
     let gate = Reverse {
         rt,
-        first: 2 * vats as u64 + 1,
+        first: 2 * vats as u32 + 1,
         ran,
         gave_up: AtomicBool::new(false),
     };
@@ -117,7 +117,7 @@ fn overlap<L: Opening + Send + Sync, R: Threads + Wait + Clock + Abort + AllocGl
     expect_reversed(rt, &book, vats);
 }
 
-fn overlap_now<R: Threads + Wait + Clock + Abort + AllocGlobal + Sync>(rt: &R, vats: u64) {
+fn overlap_now<R: Threads + Wait + Clock + Abort + AllocGlobal + Sync>(rt: &R, vats: u32) {
     overlap::<Brand, R>(
         rt,
         begun(rt, asked(rt, vats)),

@@ -178,7 +178,7 @@ impl Book {
         if self.next > LAST_NAME || self.core.len() >= MOST_ENTRIES {
             return Err(BookFault::Full);
         }
-        Ok(EventName(self.next))
+        Ok(EventName(self.next as u32))
     }
 
     /// Enters an event that is possible and makes no notes under the next name, from a seat, or changes nothing.

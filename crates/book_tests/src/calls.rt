@@ -26,7 +26,7 @@ pub(crate) fn program(rt: &(impl Abort + AllocGlobal), text: &str) -> Program {
 }
 
 /// The first message of an event.
-pub(crate) fn message(event: u64) -> MsgId {
+pub(crate) fn message(event: u32) -> MsgId {
     MsgId {
         event: EventName(event),
         index: 0,
@@ -39,7 +39,7 @@ pub(crate) fn birth(
     book: &mut Book,
     vat: &str,
     script: &str,
-    event: u64,
+    event: u32,
 ) {
     birth_behind(rt, book, vat, &[], script, event);
 }
@@ -51,7 +51,7 @@ pub(crate) fn birth_behind(
     vat: &str,
     earlier: &[&str],
     script: &str,
-    event: u64,
+    event: u32,
 ) {
     let mut names = Vec::new(rt.alloc());
     for other in earlier {
@@ -69,7 +69,7 @@ pub(crate) fn ask(
     book: &mut Book,
     vat: &str,
     text: &str,
-    event: u64,
+    event: u32,
 ) {
     match book.ask(&name(rt, vat), program(rt, text)) {
         Ok(asked) => assert!(rt; asked == EventName(event)),
@@ -78,7 +78,7 @@ pub(crate) fn ask(
 }
 
 /// Runs the turn of the first message of an event, and its number is this.
-pub(crate) fn turn(rt: &(impl Abort + AllocGlobal), book: &mut Book, of: u64, event: u64) -> Ended {
+pub(crate) fn turn(rt: &(impl Abort + AllocGlobal), book: &mut Book, of: u32, event: u32) -> Ended {
     match book.turn(message(of), BUDGET) {
         Ok(turned) => {
             assert!(rt; turned.event == EventName(event));
@@ -89,7 +89,7 @@ pub(crate) fn turn(rt: &(impl Abort + AllocGlobal), book: &mut Book, of: u64, ev
 }
 
 /// Undoes one event.
-pub(crate) fn undo(rt: &impl Abort, book: &mut Book, event: u64) {
+pub(crate) fn undo(rt: &impl Abort, book: &mut Book, event: u32) {
     match book.undo(&[EventName(event)]) {
         Ok(count) => assert!(rt; count == 1),
         Err(fault) => panic!(rt; "undo: {fault}"),
@@ -97,7 +97,7 @@ pub(crate) fn undo(rt: &impl Abort, book: &mut Book, event: u64) {
 }
 
 /// Redoes one event.
-pub(crate) fn redo(rt: &impl Abort, book: &mut Book, event: u64) {
+pub(crate) fn redo(rt: &impl Abort, book: &mut Book, event: u32) {
     match book.redo(&[EventName(event)]) {
         Ok(count) => assert!(rt; count == 1),
         Err(fault) => panic!(rt; "redo: {fault}"),
@@ -113,7 +113,7 @@ pub(crate) fn settle(rt: &impl Abort, book: &mut Book, position: usize) {
 }
 
 /// Behind what is settled the journal has just these events in this order, each live or undone.
-pub(crate) fn expect_journal(rt: &impl Abort, book: &Book, wanted: &[(u64, Mark)]) {
+pub(crate) fn expect_journal(rt: &impl Abort, book: &Book, wanted: &[(u32, Mark)]) {
     let entries = book.journal().entries;
     assert!(rt; entries.len() == wanted.len(), "not so many entries");
     for (entry, (event, mark)) in entries.iter().zip(wanted) {

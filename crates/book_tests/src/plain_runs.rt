@@ -11,7 +11,7 @@ use worldcells::world::World;
 
 const COUNTING: &str = "n := n + 1";
 
-fn event(name: u64, action: Action) -> Event {
+fn event(name: u32, action: Action) -> Event {
     Event {
         name: EventName(name),
         action,
@@ -19,7 +19,7 @@ fn event(name: u64, action: Action) -> Event {
 }
 
 /// The turn of the first message of an event, at the vat that another one bore.
-fn turn_at(born: u64, asked: u64) -> Action {
+fn turn_at(born: u32, asked: u32) -> Action {
     Action::Turn {
         vat: VatNo(EventName(born)),
         message: message(asked),
@@ -28,7 +28,7 @@ fn turn_at(born: u64, asked: u64) -> Action {
 }
 
 /// What was published for the question of an event at the first vat, if it was.
-fn published(world: &World, asked: u64) -> Option<&Value> {
+fn published(world: &World, asked: u32) -> Option<&Value> {
     let promise = PromId {
         event: EventName(asked),
         index: 0,
@@ -41,7 +41,7 @@ fn published(world: &World, asked: u64) -> Option<&Value> {
 }
 
 /// The integer that the question of an event at the first vat was answered, if it was one.
-fn answer(world: &World, asked: u64) -> Option<i64> {
+fn answer(world: &World, asked: u32) -> Option<i64> {
     match published(world, asked) {
         Some(Value::Int(found)) => Some(*found),
         _ => None,
@@ -49,7 +49,7 @@ fn answer(world: &World, asked: u64) -> Option<i64> {
 }
 
 /// A birth and its turn, and a question and its turn at the vat that this event bore, in order.
-fn events(rt: &(impl Abort + AllocGlobal), asked: &str, born: u64) -> Vec<Event> {
+fn events(rt: &(impl Abort + AllocGlobal), asked: &str, born: u32) -> Vec<Event> {
     let birth = Action::Birth(
         name(rt, "a"),
         Vec::new(rt.alloc()),

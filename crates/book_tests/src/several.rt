@@ -25,7 +25,7 @@ fn next(rt: &impl Abort, book: &mut Book) -> Option<Step> {
 }
 
 /// A call was entered as this event.
-fn expect_entered(rt: &impl Abort, entered: Result<EventName, BookFault>, wanted: u64) {
+fn expect_entered(rt: &impl Abort, entered: Result<EventName, BookFault>, wanted: u32) {
     match entered {
         Ok(event) => assert!(rt; event == EventName(wanted)),
         Err(fault) => panic!(rt; "e{wanted}: {fault}"),

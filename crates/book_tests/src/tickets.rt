@@ -27,8 +27,8 @@ pub(crate) fn asked(rt: &(impl Abort + AllocGlobal), first: &str) -> Book {
 pub(crate) fn checkout(
     rt: &(impl Abort + AllocGlobal),
     book: &mut Book,
-    of: u64,
-    event: u64,
+    of: u32,
+    event: u32,
 ) -> Ticket<Out> {
     match book.checkout(message(of), BUDGET, SEAT) {
         Ok(ticket) => {
@@ -59,7 +59,7 @@ pub(crate) fn run(rt: &impl Abort, ticket: Ticket<Out>) -> Ticket<Ran> {
 }
 
 /// Commits a ticket that is not refused. Its turn has its number and its seat in the journal's last entry.
-fn commit(rt: &impl Abort, book: &mut Book, ticket: Ticket<Ran>, event: u64) {
+fn commit(rt: &impl Abort, book: &mut Book, ticket: Ticket<Ran>, event: u32) {
     match book.commit(ticket) {
         Ok(entered) => assert!(rt; entered == EventName(event)),
         Err((ticket, fault)) => {
@@ -102,14 +102,14 @@ fn refuse_stale(rt: &impl Abort, book: &mut Book, ticket: Ticket<Ran>) -> Ticket
     ticket
 }
 
-const BEGUN: [(u64, Mark); 4] = [
+const BEGUN: [(u32, Mark); 4] = [
     (1, Mark::Live),
     (2, Mark::Live),
     (3, Mark::Live),
     (4, Mark::Live),
 ];
 
-const UNOPENED: [(u64, Mark); 4] = [
+const UNOPENED: [(u32, Mark); 4] = [
     (1, Mark::Live),
     (2, Mark::Undone),
     (3, Mark::Live),

@@ -19,13 +19,13 @@ use worldcells::event::{Action, Event};
 use worldcells::world::World;
 
 /// What the birth of a vat with an empty script writes.
-fn effects(rt: &(impl Abort + AllocGlobal), event: u64, name: &Text) -> Effects {
+fn effects(rt: &(impl Abort + AllocGlobal), event: u32, name: &Text) -> Effects {
     let script = program(rt, "");
     birth_effects(rt.alloc(), EventName(event), name, &[], &[], &script).expect(rt, "no memory")
 }
 
 /// Enters the birth of a vat.
-fn enter(rt: &(impl Abort + AllocGlobal), core: &mut Core, number: u64, vat: &str)
+fn enter(rt: &(impl Abort + AllocGlobal), core: &mut Core, number: u32, vat: &str)
     ensures settled { settled_of core.new ≡ settled_of core.old }
 {
     let name = name(rt, vat);

@@ -57,7 +57,7 @@ pub(crate) fn message_named(word: &str) -> Option<MsgId>
     let event = tagged('e', event)?;
     let index = tagged('m', index)?;
     Some(MsgId {
-        event: EventName(u64::from(event)),
+        event: EventName(event),
         index,
     })
 }
@@ -77,7 +77,7 @@ pub(crate) fn promise_named(word: &str) -> Option<PromiseName>
     let event = tagged('e', event)?;
     let index = tagged('p', index)?;
     Some(PromiseName {
-        event: EventName(u64::from(event)),
+        event: EventName(event),
         index,
     })
 }
@@ -97,7 +97,7 @@ pub(crate) fn object_named(word: &str) -> Option<ObjectName>
     let event = tagged('e', event)?;
     let index = tagged('o', index)?;
     Some(ObjectName {
-        event: EventName(u64::from(event)),
+        event: EventName(event),
         index,
     })
 }
@@ -107,7 +107,7 @@ pub(crate) fn event_named(word: &str) -> Option<EventName>
     ensures { result ≡ event_named word.now }
 {
     let number = tagged('e', word)?;
-    Some(EventName(u64::from(number)))
+    Some(EventName(number))
 }
 
 /// Whether the words of a text are one or more, and each is an event's name.

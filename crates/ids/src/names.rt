@@ -8,7 +8,7 @@ use std::fmt;
 
 /// The name of an event: a number drawn from the book's counter, from 1. The default is no event's name.
 #[derive(Clone, Copy, Default, PartialEq, Eq, PartialOrd, Ord, Hash)]
-pub struct EventName(pub u64);
+pub struct EventName(pub u32);
 
 /// A vat's number: the name of its birth.
 #[derive(Clone, Copy, PartialEq, Eq, PartialOrd, Ord, Hash)]

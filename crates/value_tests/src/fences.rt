@@ -8,7 +8,7 @@ use ids::reference::Reference;
 use std::process::Abort;
 
 /// The first message of an event.
-fn message(event: u64) -> MsgId {
+fn message(event: u32) -> MsgId {
     MsgId {
         event: EventName(event),
         index: 0,
@@ -16,7 +16,7 @@ fn message(event: u64) -> MsgId {
 }
 
 /// The fence of these messages, in whatever order they come.
-fn fence(rt: &(impl Abort + AllocGlobal), events: &[u64]) -> Fence {
+fn fence(rt: &(impl Abort + AllocGlobal), events: &[u32]) -> Fence {
     let mut fence = Fence::empty(rt.alloc());
     for event in events {
         let one = Fence::alone(rt.alloc(), message(*event));
@@ -26,7 +26,7 @@ fn fence(rt: &(impl Abort + AllocGlobal), events: &[u64]) -> Fence {
 }
 
 /// The first object of an event, as a reference.
-fn object(event: u64) -> Reference {
+fn object(event: u32) -> Reference {
     Reference::Object(ObjId {
         event: EventName(event),
         index: 0,
