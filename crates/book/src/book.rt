@@ -50,9 +50,10 @@ use ids::text::Text;
 use journal::journal::Journal;
 use kernele::tree::Program;
 use post::message::Message;
+use post::program::{Question, Script};
 use post::published::Published;
 use post::vat::Vat;
-use scopes::{CheckFault, Outer, check};
+use scopes::{CheckFault, Outer, check, top_names};
 use std::alloc::{AllocError, Global};
 use undo::records::keys_of;
 use undo::undoing::{Core, Deed};
@@ -275,7 +276,9 @@ impl Book {
         ensures none { OnErr result (swaps_of self.new ≡ swaps_of self.old) }
     {
         let (event, vats) = self.admit_birth(name, &earlier, &script)?;
-        let effects = birth_effects(self.alloc, event, name, &earlier, &vats, &script)?;
+        let tops = top_names(self.alloc, &script)?;
+        let script = Script::new(self.alloc, &script)?;
+        let effects = birth_effects(self.alloc, event, name, &earlier, &vats, tops, &script)?;
         let action = Action::Birth(name.share()?, earlier, script);
         self.enter(
             Event {
@@ -318,8 +321,9 @@ impl Book {
         ensures none { OnErr result (swaps_of self.new ≡ swaps_of self.old) }
     {
         let (event, vat) = self.admit_ask(name, &program)?;
-        let effects = ask_effects(self.alloc, event, name, vat, &program)?;
-        let action = Action::Ask(name.share()?, program);
+        let question = Question::new(self.alloc, &program)?;
+        let effects = ask_effects(self.alloc, event, name, vat, &question)?;
+        let action = Action::Ask(name.share()?, question);
         self.enter(
             Event {
                 name: event,

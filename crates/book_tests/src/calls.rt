@@ -7,6 +7,7 @@ use ids::names::{EventName, MsgId};
 use ids::text::Text;
 use journal::entry::Mark;
 use kernele::tree::Program;
+use post::program::{Question, Script};
 use std::process::Abort;
 use values::value::Value;
 
@@ -23,6 +24,16 @@ pub(crate) fn program(rt: &(impl Abort + AllocGlobal), text: &str) -> Program {
         Ok(program) => program,
         Err(_) => panic!(rt; "no program: {text}"),
     }
+}
+
+/// The script that a text spells.
+pub(crate) fn script(rt: &(impl Abort + AllocGlobal), text: &str) -> Script {
+    Script::new(rt.alloc(), &program(rt, text)).expect(rt, "no memory")
+}
+
+/// The question that a text spells.
+pub(crate) fn question(rt: &(impl Abort + AllocGlobal), text: &str) -> Question {
+    Question::new(rt.alloc(), &program(rt, text)).expect(rt, "no memory")
 }
 
 /// The first message of an event.

@@ -1,6 +1,6 @@
 // The plain run of events.
 
-use crate::calls::{BUDGET, message, name, program};
+use crate::calls::{BUDGET, message, name, question, script};
 use ids::names::{EventName, PromId, VatNo};
 use std::process::Abort;
 use values::value::Value;
@@ -53,9 +53,9 @@ fn events(rt: &(impl Abort + AllocGlobal), asked: &str, born: u32) -> Vec<Event>
     let birth = Action::Birth(
         name(rt, "a"),
         Vec::new(rt.alloc()),
-        program(rt, "var n := 20"),
+        script(rt, "var n := 20"),
     );
-    let ask = Action::Ask(name(rt, "a"), program(rt, asked));
+    let ask = Action::Ask(name(rt, "a"), question(rt, asked));
     vec![in rt.alloc();
         event(1, birth),
         event(2, turn_at(1, 1)),

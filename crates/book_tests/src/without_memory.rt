@@ -3,7 +3,7 @@ ghost use Rattle.std.specs.Prelude.{◌≡◌, ◌∷◌, [], true, length};
 ghost use Rattle.journal.specs.Items.{all_ready};
 ghost use Rattle.undo.specs.CoreView.{items_of, ready_of, settled_of};
 
-use crate::calls::{birth, expect_journal, name, program};
+use crate::calls::{birth, expect_journal, name, script};
 use crate::spent::Spent;
 use crate::tickets::{asked, checkout, refuse_strange, run};
 use book::book::Book;
@@ -20,8 +20,12 @@ use worldcells::world::World;
 
 /// What the birth of a vat with an empty script writes.
 fn effects(rt: &(impl Abort + AllocGlobal), event: u32, name: &Text) -> Effects {
-    let script = program(rt, "");
-    birth_effects(rt.alloc(), EventName(event), name, &[], &[], &script).expect(rt, "no memory")
+    let script = script(rt, "");
+    let tops = Vec::new(rt.alloc());
+    birth_effects(rt.alloc(), EventName(event), name, &[], &[], tops, &script).expect(
+        rt,
+        "no memory",
+    )
 }
 
 /// Enters the birth of a vat.
@@ -34,7 +38,7 @@ fn enter(rt: &(impl Abort + AllocGlobal), core: &mut Core, number: u32, vat: &st
         records,
         notes,
     } = effects(rt, number, &name);
-    let action = Action::Birth(name, Vec::new(rt.alloc()), program(rt, ""));
+    let action = Action::Birth(name, Vec::new(rt.alloc()), script(rt, ""));
     let event = Event {
         name: EventName(number),
         action,

@@ -2,7 +2,7 @@
 ghost use Rattle.std.specs.Prelude.{◌≡◌, ◌++◌, [], Some, List, map, IfOk, OnOk};
 ghost use Rattle.history.specs.Records.{record_of};
 ghost use Rattle.ids.specs.declared.cells.CellKey.TheVariants as key;
-ghost use Rattle.kernele.specs.View.{program_of};
+ghost use Rattle.code.specs.View.{trees_of_codes};
 ghost use Rattle.scopes.specs.Scope.{own_names_in};
 ghost use Rattle.heap.specs.State.{State};
 ghost use Rattle.post.specs.Messages as posts;
@@ -32,13 +32,12 @@ use heap::reach::Footprint;
 use ids::cells::CellKey;
 use ids::names::{EventName, MsgId, PromId, VatNo};
 use ids::text::Text;
-use kernele::tree::Program;
 use post::delivery::Delivery;
 use post::earlier::Earlier;
 use post::message::{Message, Place, Sent};
 use post::program::{Question, Script};
 use post::vat::Vat;
-use scopes::top_names;
+use scopes::TopName;
 use std::alloc::{AllocError, Global};
 use std::sync::Arc;
 use worldcells::record::CellRecord;
@@ -73,22 +72,17 @@ fn first_promise(event: EventName, home: VatNo) -> PromId
     }
 }
 
-/// A record of the name of a vat that is born with this script, which knows these earlier vats.
+/// A record of the name of a vat that is born with these top nouns, and knows these earlier vats.
 fn name_record(
     alloc: Global,
     event: EventName,
     name: &Text,
     earlier: &[Text],
-    script: &Program,
+    tops: Vec<TopName>,
 ) -> Result<CellRecord, AllocError>
-    ensures { IfOk result (λ r. kept_of r ≡ (key.Name name.now, (Some (model.vat (record { number = record { 0 = event }; earlier = earlier.now; tops = own_names_in (program_of script.now) })), Some event.0))) }
+    ensures { IfOk result (λ r. kept_of r ≡ (key.Name name.now, (Some (model.vat (record { number = record { 0 = event }; earlier = earlier.now; tops = tops.items })), Some event.0))) }
 {
-    let vat = Vat::new(
-        alloc,
-        VatNo(event),
-        share_names(alloc, earlier)?,
-        top_names(alloc, script)?,
-    )?;
+    let vat = Vat::new(alloc, VatNo(event), share_names(alloc, earlier)?, tops)?;
     Ok(CellRecord::Name(Record {
         key: name.share()?,
         content: Some(vat),
@@ -137,13 +131,13 @@ fn opening(
     alloc: Global,
     event: EventName,
     earlier: Vec<Earlier>,
-    script: &Program,
+    script: &Script,
 ) -> Result<Message, AllocError>
-    ensures { IfOk result (λ g. message_of g ≡ opening_message event earlier.items (program_of script.now)) }
+    ensures { IfOk result (λ g. message_of g ≡ opening_message event earlier.items (trees_of_codes script.now.items.value.items)) }
 {
     let number = VatNo(event);
     let sent = Sent {
-        delivery: Delivery::Opening(Arc::new(alloc, earlier)?, Script::new(alloc, script)?),
+        delivery: Delivery::Opening(Arc::new(alloc, earlier)?, script.share()?),
         result: first_promise(event, number),
         after: Fence::empty(alloc),
     };
@@ -155,28 +149,30 @@ fn asked(
     alloc: Global,
     event: EventName,
     vat: VatNo,
-    program: &Program,
+    question: &Question,
 ) -> Result<Message, AllocError>
-    ensures { IfOk result (λ g. message_of g ≡ asked_message event vat (program_of program.now)) }
+    ensures { IfOk result (λ g. message_of g ≡ asked_message event vat (trees_of_codes question.now.items.value.items)) }
 {
     let sent = Sent {
-        delivery: Delivery::Asked(Question::new(alloc, program)?),
+        delivery: Delivery::Asked(question.share()?),
         result: first_promise(event, vat),
         after: Fence::alone(alloc, first_message(vat.0)),
     };
     Message::new(alloc, sent, Place::At(vat))
 }
 
-/// The effects of a birth of this name with this script, which knows these vats by these names. Fails only for want of memory.
+/// The effects of a birth of this name with this script, which defines these top nouns and knows these vats by these names. The message
+/// shares the script. Fails only for want of memory.
 pub fn birth_effects(
     alloc: Global,
     event: EventName,
     name: &Text,
     earlier: &[Text],
     vats: &[VatNo],
-    script: &Program,
+    tops: Vec<TopName>,
+    script: &Script,
 ) -> Result<Effects, AllocError>
-    ensures brings { IfOk result (λ it. (found : List posts.Vat) → map (λ v. v.number) found ≡ vats.now → Brings event (birth_foot event name.now (earlier.now) found (program_of script.now)) it.touched.items (kepts_of it.records.items)) }
+    ensures brings { IfOk result (λ it. (found : List posts.Vat) → map (λ v. v.number) found ≡ vats.now → tops.items ≡ own_names_in (trees_of_codes script.now.items.value.items) → Brings event (birth_foot event name.now (earlier.now) found (trees_of_codes script.now.items.value.items)) it.touched.items (kepts_of it.records.items)) }
     ensures quiet { IfOk result (λ it. it.notes.items ≡ []) }
 {
     let first = first_message(event);
@@ -187,26 +183,26 @@ pub fn birth_effects(
     Ok(Effects {
         touched,
         records: vec![in alloc;
-            name_record(alloc, event, name, earlier, script)?,
+            name_record(alloc, event, name, earlier, tops)?,
             message_record(event, first, message),
         ]?,
         notes: Vec::new(alloc),
     })
 }
 
-/// The effects of a program that is asked of the vat of this name and number. Fails only for want of memory.
+/// The effects of a question that is asked of the vat of this name and number. The message shares it. Fails only for want of memory.
 pub fn ask_effects(
     alloc: Global,
     event: EventName,
     name: &Text,
     vat: VatNo,
-    program: &Program,
+    question: &Question,
 ) -> Result<Effects, AllocError>
-    ensures brings { IfOk result (λ it. Brings event (ask_foot event name.now vat (program_of program.now)) it.touched.items (kepts_of it.records.items)) }
+    ensures brings { IfOk result (λ it. Brings event (ask_foot event name.now vat (trees_of_codes question.now.items.value.items)) it.touched.items (kepts_of it.records.items)) }
     ensures quiet { IfOk result (λ it. it.notes.items ≡ []) }
 {
     let first = first_message(event);
-    let message = asked(alloc, event, vat, program)?;
+    let message = asked(alloc, event, vat, question)?;
     Ok(Effects {
         touched: vec![in alloc; CellKey::Name(name.share()?), CellKey::Msg(first)]?,
         records: vec![in alloc; message_record(event, first, message)]?,

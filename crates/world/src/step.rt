@@ -2,7 +2,7 @@
 ghost use Rattle.std.specs.Prelude.{◌≡◌, ◌⊎◌, ◌↔◌, IfOk, IfErr, IsTrue, OnOk, OnErr, None, Some, map};
 ghost use Rattle.std.specs.Arc.{arc_value};
 ghost use Rattle.ids.specs.declared.cells.CellKey.TheVariants as key;
-ghost use Rattle.kernele.specs.View.{program_of};
+ghost use Rattle.code.specs.View.{trees_of_codes};
 ghost use Rattle.heap.specs.Found.{Found};
 ghost use Rattle.heap.specs.State.{pending, view_cell, viewed};
 ghost use Rattle.heap.specs.View.{state_of};
@@ -32,12 +32,14 @@ use event::ready::{Delay, Way, check_ready, message_at_vat};
 use heap::state::{VatState, View};
 use ids::names::{EventName, MsgId, PromId, VatNo};
 use ids::text::Text;
-use kernele::tree::Program;
 use post::message::Message;
+use post::program::{Question, Script};
 use post::published::Published;
+use scopes::top_names;
 use std::alloc::{AllocError, AllocFailed, Global};
 use turn::ticket::{Out, Ran, Ticket};
 use undo::records::{make_rooms, swap_records};
+use unresolver::unresolve;
 use worldcells::event::{Action, Event};
 use worldcells::world::World;
 
@@ -75,16 +77,18 @@ fn effects_of_birth(
     event: EventName,
     name: &Text,
     earlier: &[Text],
-    script: &Program,
+    script: &Script,
 ) -> Result<Effects, StepFault>
-    ensures ok { IfOk result (λ it. (f : Foot) × Happens (record { name = event; act = birth name.now earlier.now (program_of script.now) }) f (world_of world.now) it) }
-    ensures err { IfErr result (λ fault. TellsStep (record { name = event; act = birth name.now earlier.now (program_of script.now) }) (world_of world.now) fault) }
+    ensures ok { IfOk result (λ it. (f : Foot) × Happens (record { name = event; act = birth name.now earlier.now (trees_of_codes script.now.items.value.items) }) f (world_of world.now) it) }
+    ensures err { IfErr result (λ fault. TellsStep (record { name = event; act = birth name.now earlier.now (trees_of_codes script.now.items.value.items) }) (world_of world.now) fault) }
 {
     let None = world.vat(name) else {
         return Err(StepFault::Impossible);
     };
     let vats = numbers_of(alloc, world, earlier)?;
-    Ok(birth_effects(alloc, event, name, earlier, vats.as_slice(), script)?)
+    let program = unresolve(alloc, &script.items)?;
+    let tops = top_names(alloc, &program)?;
+    Ok(birth_effects(alloc, event, name, earlier, vats.as_slice(), tops, script)?)
 }
 
 /// The numbers of the vats of these names, if each has one.
@@ -108,15 +112,15 @@ fn effects_of_ask(
     world: &World,
     event: EventName,
     name: &Text,
-    program: &Program,
+    question: &Question,
 ) -> Result<Effects, StepFault>
-    ensures ok { IfOk result (λ it. (f : Foot) × Happens (record { name = event; act = ask name.now (program_of program.now) }) f (world_of world.now) it) }
-    ensures err { IfErr result (λ fault. TellsStep (record { name = event; act = ask name.now (program_of program.now) }) (world_of world.now) fault) }
+    ensures ok { IfOk result (λ it. (f : Foot) × Happens (record { name = event; act = ask name.now (trees_of_codes question.now.items.value.items) }) f (world_of world.now) it) }
+    ensures err { IfErr result (λ fault. TellsStep (record { name = event; act = ask name.now (trees_of_codes question.now.items.value.items) }) (world_of world.now) fault) }
 {
     let Some(vat) = world.vat(name) else {
         return Err(StepFault::Impossible);
     };
-    Ok(ask_effects(alloc, event, name, vat.number, program)?)
+    Ok(ask_effects(alloc, event, name, vat.number, question)?)
 }
 
 /// The effects of an arrival, if the message is on its way.
@@ -336,7 +340,7 @@ fn effects_of(alloc: Global, world: &mut World, event: &Event) -> Result<Effects
         Action::Birth(name, earlier, script) => {
             effects_of_birth(alloc, world, event.name, name, earlier, script)
         }
-        Action::Ask(name, program) => effects_of_ask(alloc, world, event.name, name, program),
+        Action::Ask(name, question) => effects_of_ask(alloc, world, event.name, name, question),
         Action::Arrive(message) => effects_of_arrival(alloc, world, event.name, *message),
         Action::Forward(message) => effects_of_forwarding(alloc, world, event.name, *message),
         Action::Learn(vat, promise) => {

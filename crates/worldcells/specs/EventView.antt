@@ -1,13 +1,13 @@
 -- What the program's events stand for.
-use Rattle.kernele.specs.View.{program_of}
+use Rattle.code.specs.View.{trees_of_codes}
 use Rattle.worldcells.specs.Events.{Act, birth, ask, arrive, forward, learn, turn, Event}
 use Rattle.worldcells.specs.declared.event.Action.{Action}
 use Rattle.worldcells.specs.declared.event.Action.TheVariants as action
 use Rattle.worldcells.specs.declared.event.Event as code
 
 abbrev pub act_of : Action → Act
-act_of (action.Birth x earlier script) = birth x earlier.items (program_of script)
-act_of (action.Ask x program) = ask x (program_of program)
+act_of (action.Birth x earlier script) = birth x earlier.items (trees_of_codes script.items.value.items)
+act_of (action.Ask x program) = ask x (trees_of_codes program.items.value.items)
 act_of (action.Arrive m) = arrive m
 act_of (action.Forward m) = forward m
 act_of (action.Learn v p) = learn v p

@@ -1,15 +1,15 @@
 // What happens: the events of a book.
 use ids::names::{EventName, MsgId, PromId, VatNo};
 use ids::text::Text;
-use kernele::tree::Program;
+use post::program::{Question, Script};
 
 /// What an event does.
 #[derive(Drop)]
 pub enum Action {
     /// A vat of this name is born, whose script knows these earlier vats by their names.
-    Birth(Text, Vec<Text>, Program),
+    Birth(Text, Vec<Text>, Script),
     /// A program is asked of the vat of this name.
-    Ask(Text, Program),
+    Ask(Text, Question),
     /// A message arrives at the vat to which it flies.
     Arrive(MsgId),
     /// A message goes on to the vat to which its target leads.

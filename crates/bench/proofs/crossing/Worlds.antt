@@ -12,23 +12,23 @@ use Rattle.links.specs.contracts.places.Places as places
 use Rattle.journal.specs.contracts.entry.Entry as entry
 use Rattle.journal.specs.contracts.settled.Settled as settled
 use Rattle.undo.specs.contracts.undoing.Core as core
-use Rattle.bench.proofs.crossing.Messages.{message_crosses, published_crosses}
+use Rattle.bench.proofs.crossing.Messages.{message_crosses, published_crosses, script_crosses, question_crosses}
 use Rattle.bench.proofs.crossing.More.{table_crosses, note_crosses, mark_crosses, touched_crosses}
 use Rattle.bench.proofs.crossing.Names.{text_crosses, message_name_crosses, vat_number_crosses, promise_crosses, event_crosses, record_crosses, vat_crosses, slot_crosses, object_crosses, reference_crosses, fence_crosses, store_crosses}
 use Rattle.bench.proofs.crossing.States.{state_crosses, made_crosses, binding_crosses, view_crosses}
-use Rattle.bench.proofs.crossing.Values.{program_crosses, value_crosses}
+use Rattle.bench.proofs.crossing.Values.{value_crosses}
 
 pub action_send : IsSend (action.the_field).row
-action_send = search (text_crosses, program_crosses, message_name_crosses, vat_number_crosses, promise_crosses, sendable, crosses) depth 40
+action_send = search (text_crosses, script_crosses, question_crosses, message_name_crosses, vat_number_crosses, promise_crosses, sendable, crosses) depth 40
 
 pub action_row_send : IsSend action.the_row
-action_row_send = search (action_send, text_crosses, program_crosses, message_name_crosses, vat_number_crosses, promise_crosses, sendable, crosses) depth 40
+action_row_send = search (action_send, text_crosses, script_crosses, question_crosses, message_name_crosses, vat_number_crosses, promise_crosses, sendable, crosses) depth 40
 
 pub action_sync : IsSync (action.the_field).row
-action_sync = search (text_crosses, program_crosses, message_name_crosses, vat_number_crosses, promise_crosses, sendable, crosses) depth 40
+action_sync = search (text_crosses, script_crosses, question_crosses, message_name_crosses, vat_number_crosses, promise_crosses, sendable, crosses) depth 40
 
 pub action_row_sync : IsSync action.the_row
-action_row_sync = search (action_sync, text_crosses, program_crosses, message_name_crosses, vat_number_crosses, promise_crosses, sendable, crosses) depth 40
+action_row_sync = search (action_sync, text_crosses, script_crosses, question_crosses, message_name_crosses, vat_number_crosses, promise_crosses, sendable, crosses) depth 40
 
 pub ruleset action_crosses = (action_send, action_sync, action_row_send, action_row_sync)
 

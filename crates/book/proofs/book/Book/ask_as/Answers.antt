@@ -1,6 +1,7 @@
 use Rattle.std.proofs.Common.{refl, sym, subst}
+use Rattle.code.specs.View.{trees_of_codes}
 use Rattle.kernele.specs.View.{program_of}
-use Rattle.kernele.specs.Tree.{Name}
+use Rattle.kernele.specs.Tree.{Name, Trees}
 use Rattle.worldcells.specs.Events.{ask}
 use Rattle.ids.specs.declared.names.VatNo.{VatNo}
 use Rattle.event.specs.Events.{Does, ask_foot, asks}
@@ -14,11 +15,11 @@ use Rattle.book.proofs.book.Book.ask_as.Goals as goal
 pub enter-requires-clause-possible : goal.enter-requires-clause-possible
 enter-requires-clause-possible c =
     let e = c.in_ok-event.event in
-    let p = program_of c.args.program in
+    let q = trees_of_codes c.in_ok-question.question.items.value.items in
     let w = (book_of c.args.self.now).world in
-    let f = ask_foot e c.args.name.now c.in_ok-event.vat p in
-    let does : Does (record { name = e; act = ask c.args.name.now p }) w f = subst (λ (v : VatNo). Does (record { name = e; act = ask c.args.name.now p }) w (ask_foot e c.args.name.now v p)) c.in_ok-event.ensures.ok.2.2 (asks c.in_ok-event.ensures.ok.2.1) in
-    (f, subst (λ (x : Name). Happens (record { name = e; act = ask x p }) f w c.in_ok-effects.effects) (sym c.in_ok-share.ensures) (record { does = ∣ quietly does refl c.in_ok-effects.effects.notes.items c.in_ok-effects.ensures.quiet ∣₁; brings = c.in_ok-effects.ensures.brings }))
+    let f = ask_foot e c.args.name.now c.in_ok-event.vat q in
+    let does : Does (record { name = e; act = ask c.args.name.now q }) w f = subst (λ (v : VatNo). Does (record { name = e; act = ask c.args.name.now q }) w (ask_foot e c.args.name.now v q)) c.in_ok-event.ensures.ok.2.2 (asks c.in_ok-event.ensures.ok.2.1) in
+    (f, subst (λ (x : Name). Happens (record { name = e; act = ask x q }) f w c.in_ok-effects.effects) (sym c.in_ok-share.ensures) (record { does = ∣ quietly does refl c.in_ok-effects.effects.notes.items c.in_ok-effects.ensures.quiet ∣₁; brings = c.in_ok-effects.ensures.brings }))
 
 pub enter-requires-clause-room : goal.enter-requires-clause-room
 enter-requires-clause-room c =
@@ -29,15 +30,16 @@ enter-requires-clause-room c =
 pub returns-clause-ok : goal.returns-clause-ok
 returns-clause-ok c =
     let e = c.in_ok-event.event in
-    let p = program_of c.args.program in
+    let q = trees_of_codes c.in_ok-question.question.items.value.items in
     let w = (book_of c.args.self.now).world in
-    let f = ask_foot e c.args.name.now c.in_ok-event.vat p in
-    let does : Does (record { name = e; act = ask c.args.name.now p }) w f = subst (λ (v : VatNo). Does (record { name = e; act = ask c.args.name.now p }) w (ask_foot e c.args.name.now v p)) c.in_ok-event.ensures.ok.2.2 (asks c.in_ok-event.ensures.ok.2.1) in
-    let h : Happens (record { name = e; act = ask c.args.name.now p }) f w c.in_ok-effects.effects = record { does = ∣ quietly does refl c.in_ok-effects.effects.notes.items c.in_ok-effects.ensures.quiet ∣₁; brings = c.in_ok-effects.ensures.brings } in (
+    let f = ask_foot e c.args.name.now c.in_ok-event.vat q in
+    let does : Does (record { name = e; act = ask c.args.name.now q }) w f = subst (λ (v : VatNo). Does (record { name = e; act = ask c.args.name.now q }) w (ask_foot e c.args.name.now v q)) c.in_ok-event.ensures.ok.2.2 (asks c.in_ok-event.ensures.ok.2.1) in
+    let h : Happens (record { name = e; act = ask c.args.name.now q }) f w c.in_ok-effects.effects = record { does = ∣ quietly does refl c.in_ok-effects.effects.notes.items c.in_ok-effects.ensures.quiet ∣₁; brings = c.in_ok-effects.ensures.brings } in (
       c.in_ok-event.ensures.ok.3,
       (
         c.in_ok-event.vat,
-        subst (λ (x : Name). EntersNext (record { name = e; act = ask x p }) f c.args.seat (book_of c.args.self.now) (book_of c.enter.new.self)) c.in_ok-share.ensures
-            (c.in_ok-enter.ensures.ok f (subst (λ (x : Name). Happens (record { name = e; act = ask x p }) f w c.in_ok-effects.effects) (sym c.in_ok-share.ensures) h)),
+        subst (λ (ts : Trees). EntersNext (record { name = e; act = ask c.args.name.now ts }) (ask_foot e c.args.name.now c.in_ok-event.vat ts) c.args.seat (book_of c.args.self.now) (book_of c.enter.new.self)) c.in_ok-question.ensures
+            (subst (λ (x : Name). EntersNext (record { name = e; act = ask x q }) f c.args.seat (book_of c.args.self.now) (book_of c.enter.new.self)) c.in_ok-share.ensures
+            (c.in_ok-enter.ensures.ok f (subst (λ (x : Name). Happens (record { name = e; act = ask x q }) f w c.in_ok-effects.effects) (sym c.in_ok-share.ensures) h))),
       ),
     )

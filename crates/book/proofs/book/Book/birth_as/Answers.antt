@@ -1,6 +1,8 @@
-use Rattle.std.proofs.Common.{◌≡◌, ◌∙◌, List, None, refl, sym, subst}
+use Rattle.std.proofs.Common.{◌≡◌, ◌∙◌, List, None, refl, sym, ap, subst}
+use Rattle.code.specs.View.{trees_of_codes}
 use Rattle.kernele.specs.View.{program_of}
-use Rattle.kernele.specs.Tree.{Name}
+use Rattle.kernele.specs.Tree.{Name, Trees}
+use Rattle.scopes.specs.Scope.{own_names_in}
 use Rattle.worldcells.specs.Events.{birth}
 use Rattle.worldcells.specs.Theory.{kepts_of}
 use Rattle.event.specs.Events.{birth_foot, births}
@@ -17,15 +19,16 @@ pub enter-requires-clause-possible : goal.enter-requires-clause-possible
 enter-requires-clause-possible c =
     let e = c.in_ok-event.event in
     let x = c.args.name.now in
-    let p = program_of c.args.script in
+    let q = trees_of_codes c.in_ok-script.script.items.value.items in
+    let tops : c.in_ok-tops.tops.items ≡ own_names_in q = c.in_ok-tops.ensures ∙ ap own_names_in (sym c.in_ok-script.ensures) in
     let w = (book_of c.args.self.now).world in
     let names = c.args.earlier.items in
     let n : Numbers w names c.in_ok-event.vats.items = subst (λ (xs : List Name). Numbers w xs c.in_ok-event.vats.items) c.deref.ensures.value c.in_ok-event.ensures.ok.3 in
-    let f = birth_foot e x names n.vats p in
+    let f = birth_foot e x names n.vats q in
     let it = c.in_ok-effects.effects in
     let brings : Brings e f it.touched.items (kepts_of it.records.items) =
-    subst (λ (xs : List Name). Brings e (birth_foot e x xs n.vats p) it.touched.items (kepts_of it.records.items)) c.deref-2.ensures.value (c.in_ok-effects.ensures.brings n.vats (n.numbered ∙ sym c.deref-3.ensures.value)) in
-    (f, subst (λ (y : Name). Happens (record { name = e; act = birth y names p }) f w it) (sym c.in_ok-share.ensures) (record { does = ∣ quietly (births n.vats c.in_ok-event.ensures.ok.2 n.named) refl it.notes.items c.in_ok-effects.ensures.quiet ∣₁; brings = brings }))
+    subst (λ (xs : List Name). Brings e (birth_foot e x xs n.vats q) it.touched.items (kepts_of it.records.items)) c.deref-2.ensures.value (c.in_ok-effects.ensures.brings n.vats (n.numbered ∙ sym c.deref-3.ensures.value) tops) in
+    (f, subst (λ (y : Name). Happens (record { name = e; act = birth y names q }) f w it) (sym c.in_ok-share.ensures) (record { does = ∣ quietly (births n.vats c.in_ok-event.ensures.ok.2 n.named) refl it.notes.items c.in_ok-effects.ensures.quiet ∣₁; brings = brings }))
 
 pub enter-requires-clause-room : goal.enter-requires-clause-room
 enter-requires-clause-room c =
@@ -35,20 +38,22 @@ pub returns-clause-ok : goal.returns-clause-ok
 returns-clause-ok c =
     let e = c.in_ok-event.event in
     let x = c.args.name.now in
-    let p = program_of c.args.script in
+    let q = trees_of_codes c.in_ok-script.script.items.value.items in
+    let tops : c.in_ok-tops.tops.items ≡ own_names_in q = c.in_ok-tops.ensures ∙ ap own_names_in (sym c.in_ok-script.ensures) in
     let b = book_of c.args.self.now in
     let w = b.world in
     let names = c.args.earlier.items in
     let n : Numbers w names c.in_ok-event.vats.items = subst (λ (xs : List Name). Numbers w xs c.in_ok-event.vats.items) c.deref.ensures.value c.in_ok-event.ensures.ok.3 in
-    let f = birth_foot e x names n.vats p in
+    let f = birth_foot e x names n.vats q in
     let it = c.in_ok-effects.effects in
     let brings : Brings e f it.touched.items (kepts_of it.records.items) =
-    subst (λ (xs : List Name). Brings e (birth_foot e x xs n.vats p) it.touched.items (kepts_of it.records.items)) c.deref-2.ensures.value (c.in_ok-effects.ensures.brings n.vats (n.numbered ∙ sym c.deref-3.ensures.value)) in
-    let h : Happens (record { name = e; act = birth x names p }) f w it = record { does = ∣ quietly (births n.vats c.in_ok-event.ensures.ok.2 n.named) refl it.notes.items c.in_ok-effects.ensures.quiet ∣₁; brings = brings } in (
-      subst (λ (xs : List Name). birth_refusal b x xs p ≡ None) c.deref.ensures.value c.in_ok-event.ensures.ok.4,
+    subst (λ (xs : List Name). Brings e (birth_foot e x xs n.vats q) it.touched.items (kepts_of it.records.items)) c.deref-2.ensures.value (c.in_ok-effects.ensures.brings n.vats (n.numbered ∙ sym c.deref-3.ensures.value) tops) in
+    let h : Happens (record { name = e; act = birth x names q }) f w it = record { does = ∣ quietly (births n.vats c.in_ok-event.ensures.ok.2 n.named) refl it.notes.items c.in_ok-effects.ensures.quiet ∣₁; brings = brings } in (
+      subst (λ (xs : List Name). birth_refusal b x xs (program_of c.args.script) ≡ None) c.deref.ensures.value c.in_ok-event.ensures.ok.4,
       (
         n.vats,
-        subst (λ (y : Name). EntersNext (record { name = e; act = birth y names p }) f c.args.seat b (book_of c.enter.new.self)) c.in_ok-share.ensures
-            (c.in_ok-enter.ensures.ok f (subst (λ (y : Name). Happens (record { name = e; act = birth y names p }) f w it) (sym c.in_ok-share.ensures) h)),
+        subst (λ (ts : Trees). EntersNext (record { name = e; act = birth x names ts }) (birth_foot e x names n.vats ts) c.args.seat b (book_of c.enter.new.self)) c.in_ok-script.ensures
+            (subst (λ (y : Name). EntersNext (record { name = e; act = birth y names q }) f c.args.seat b (book_of c.enter.new.self)) c.in_ok-share.ensures
+            (c.in_ok-enter.ensures.ok f (subst (λ (y : Name). Happens (record { name = e; act = birth y names q }) f w it) (sym c.in_ok-share.ensures) h))),
       ),
     )
