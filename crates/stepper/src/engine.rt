@@ -606,6 +606,42 @@ impl Engine {
             sink.check()?;
         }
     }
+
+    /// Answers all commands on an outlet that is open again, and sends what waits there behind the last.
+    fn answer_and_send<R: Read, W: Write, C: Crew>(
+        &mut self,
+        source: &mut Lines<R>,
+        sink: &mut Outlet<W>,
+        crew: &mut C,
+    ) -> Result<Summary, Fault>
+        requires blank { book_of self.old.book ≡ blank }
+        requires none_refused { self.old.written.refused ≡ false }
+        requires sound { IsSound R.remaining source.old }
+        requires crew { C.ready }
+        ensures ok { IfOk result (λ summary. RunsToEnd R.remaining W.contents self.old.limits source.old source.new sink.old sink.new summary.refused) }
+        ensures err { IfErr result (RunsTo R.remaining W.contents self.old.limits source.old source.new sink.old sink.new) }
+        ensures all_out { waiting sink.new ≡ [] }
+    {
+        sink.reopen();
+        match self.answer_all(source, sink, crew) {
+            Ok(()) => {
+                sink.send()?;
+                Ok(Summary {
+                    refused: self.written.refused,
+                })
+            }
+            Err(Fault::Reader) => {
+                sink.send()?;
+                Err(Fault::Reader)
+            }
+            // Nothing waits any more.
+            Err(Fault::Writer) => Err(Fault::Writer),
+            Err(Fault::Memory) => {
+                sink.send()?;
+                Err(Fault::Memory)
+            }
+        }
+    }
 }
 
 /// The names that words are, as texts of their own.
@@ -621,7 +657,8 @@ fn texts(alloc: Global, words: &str) -> Result<Vec<Text>, AllocError>
 }
 
 /// Answers the commands of a source one after another: each before it reads past the block that holds it. Only for `work` it hands the book to
-/// the crew. A reply takes no memory: want of it for what a command needs is replied, before the command takes effect.
+/// the crew. A reply takes no memory: want of it for what a command needs is replied, before the command takes effect. The book is left
+/// as it is: a run is the last thing that a process does.
 ///
 /// # Errors
 /// `Reader` where a read failed: the commands that were read whole are answered. `Writer` where a write failed: a beginning of
@@ -639,29 +676,14 @@ pub fn run<R: Read, W: Write, C: Crew>(
     ensures err { IfErr result (RunsTo R.remaining W.contents limits source.old source.new sink.old sink.new) }
     ensures all_out { waiting sink.new ≡ [] }
 {
-    sink.reopen();
     let mut engine = Engine {
         alloc,
         limits,
         book: Book::new(alloc),
         written: Written { refused: false },
     };
-    match engine.answer_all(source, sink, crew) {
-        Ok(()) => {
-            sink.send()?;
-            Ok(Summary {
-                refused: engine.written.refused,
-            })
-        }
-        Err(Fault::Reader) => {
-            sink.send()?;
-            Err(Fault::Reader)
-        }
-        // Nothing waits any more.
-        Err(Fault::Writer) => Err(Fault::Writer),
-        Err(Fault::Memory) => {
-            sink.send()?;
-            Err(Fault::Memory)
-        }
-    }
+    let summary = engine.answer_and_send(source, sink, crew);
+    // What the book holds goes back with all else when the process ends, and not entry by entry before that.
+    mem::forget(engine);
+    summary
 }
