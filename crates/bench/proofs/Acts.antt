@@ -1,16 +1,16 @@
 -- What a command or a step that is picked does to a book, as its seat sees it.
 use Rattle.std.proofs.Common.{◌≡◌, ℕ, Some, [], ◌∷◌, ◌++◌, false, refl, ap, ◌∙◌}
 use Rattle.ids.specs.declared.names.EventName.{EventName}
-use Rattle.worldcells.specs.Events.{Act, Event}
-use Rattle.worldcells.specs.EventView.{event_of}
-use Rattle.worldcells.specs.declared.event.Event as code
-use Rattle.agenda.specs.declared.agenda.Step.{Step}
+use Rattle.world_cells.specs.Events.{Act, Event}
+use Rattle.world_cells.specs.EventView.{event_of}
+use Rattle.world_cells.specs.declared.event.Event as code
+use Rattle.book_agenda.specs.declared.agenda.Step.{Step}
 use Rattle.book.specs.Books.{Book}
-use Rattle.pact.specs.Agree.{strike, entered_by}
+use Rattle.bench_pact.specs.Agree.{strike, entered_by}
 use Rattle.bench.specs.declared.command.Command.{Command}
 use Rattle.bench.specs.declared.command.Command.TheVariants as command
 use Rattle.bench.specs.declared.pick.Pick.TheVariants as pick
-use Rattle.crew.specs.Work.{is_turn}
+use Rattle.book_crew.specs.Work.{is_turn}
 use Rattle.bench.specs.Desk.{Held, Returns}
 use Rattle.bench.specs.Author.{IsActOf, IsStep, Obeys, Picks, mark_of}
 use Rattle.bench.proofs.Agrees.{Grows}

@@ -10,19 +10,19 @@ use Rattle.std.proofs.lemmas.Option.{slice_get_within, get_or_from_slice_get}
 use Rattle.std.proofs.lemmas.Bool.{ne_eqb}
 use Rattle.std.proofs.lemmas.Bool.Decides.{eqb_tells}
 use Rattle.ids.specs.declared.names.EventName.{EventName}
-use Rattle.worldcells.specs.Events as events
-use Rattle.worldcells.specs.Events.{Event}
-use Rattle.worldcells.specs.EventView.{event_of}
-use Rattle.worldcells.specs.declared.event.Event as code
+use Rattle.world_cells.specs.Events as events
+use Rattle.world_cells.specs.Events.{Event}
+use Rattle.world_cells.specs.EventView.{event_of}
+use Rattle.world_cells.specs.declared.event.Event as code
 use Rattle.history.proofs.Lists.{all_map, all_both, all_append}
 use Rattle.journal.specs.Lines.{Line}
 use Rattle.desk.specs.Desks.{Lent, without}
 use Rattle.book.specs.Books.{Book}
 use Rattle.book.proofs.TicketsOut.{all_filter, without_differ}
-use Rattle.pact.specs.declared.View.{View}
-use Rattle.pact.specs.declared.Deeds.{Deeds}
-use Rattle.pact.specs.declared.Act.TheVariants.{Opens, Closes}
-use Rattle.pact.specs.Agree.{blank, after, strike, knower}
+use Rattle.bench_pact.specs.declared.View.{View}
+use Rattle.bench_pact.specs.declared.Deeds.{Deeds}
+use Rattle.bench_pact.specs.declared.Act.TheVariants.{Opens, Closes}
+use Rattle.bench_pact.specs.Agree.{blank, after, strike, knower}
 use Rattle.book.specs.Entered.{Entered, entered_in, IsAmong}
 use Rattle.bench.specs.Seats.{events_by}
 use Rattle.bench.specs.Desk.{Held, events_of, is_among, AreOpen, Answers, Agrees, IsDesk}

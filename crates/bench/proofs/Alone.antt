@@ -3,7 +3,7 @@ use Rattle.std.proofs.Common.{◌≡◌, List, [], ◌∷◌, cond, not, refl, a
 use Rattle.ids.specs.declared.names.EventName.{EventName}
 use Rattle.book.specs.declared.fault.BookFault.{BookFault}
 use Rattle.book.specs.declared.fault.BookFault.TheVariants as fault
-use Rattle.pact.specs.Agree.{strike}
+use Rattle.bench_pact.specs.Agree.{strike}
 use Rattle.bench.specs.Desk.{Held, refused}
 use Rattle.bench.proofs.Agrees.{same_test}
 

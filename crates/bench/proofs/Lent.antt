@@ -4,7 +4,7 @@ use Rattle.std.proofs.lemmas.List.Elements.{All-head, All-tail}
 use Rattle.std.proofs.lemmas.List.Sums.{sum_by-cons, sum_by_push}
 use Rattle.ids.specs.declared.names.EventName.{EventName}
 use Rattle.desk.specs.Desks.{Lent, without}
-use Rattle.agenda.proofs.Rising.{in_none, in_cases}
+use Rattle.book_agenda.proofs.Rising.{in_none, in_cases}
 use Rattle.bench.specs.Workshop.{lent_after}
 use Rattle.bench.proofs.Agrees.{same_test}
 

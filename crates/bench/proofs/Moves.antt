@@ -5,11 +5,11 @@ use Rattle.std.proofs.lemmas.List.{length-map}
 use Rattle.std.proofs.lemmas.List.Sorted.{IsPermutation-refl, IsPermutation-cons, IsPermutation-middle}
 use Rattle.std.proofs.lemmas.Option.{slice_get-map}
 use Rattle.ids.specs.declared.names.EventName.{EventName}
-use Rattle.worldcells.specs.Events.{Act, Noted, event_in, with_notes}
-use Rattle.worldcells.specs.EventView.{event_of}
+use Rattle.world_cells.specs.Events.{Act, Noted, event_in, with_notes}
+use Rattle.world_cells.specs.EventView.{event_of}
 use Rattle.event.specs.Events.{Foot}
-use Rattle.agenda.specs.declared.agenda.Step.{Step}
-use Rattle.agenda.specs.declared.agenda.Step.TheVariants as step
+use Rattle.book_agenda.specs.declared.agenda.Step.{Step}
+use Rattle.book_agenda.specs.declared.agenda.Step.TheVariants as step
 use Rattle.journal.specs.Items.{item_of, exchanged}
 use Rattle.journal.specs.Journals.{items_in, settled_item}
 use Rattle.journal.specs.Lines.{Line, line_of, lines_of, in_order}
@@ -26,14 +26,14 @@ use Rattle.book.specs.Refusals.{exchange_refusal}
 use Rattle.book.specs.declared.fault.BookFault.{BookFault}
 use Rattle.book.specs.declared.fault.BookFault.TheVariants.{NoTicket}
 use Rattle.book.proofs.TicketsOut.{not_out}
-use Rattle.pact.specs.declared.View.{View}
-use Rattle.pact.specs.declared.Deeds.{Deeds}
-use Rattle.pact.specs.Agree.{after, knower}
+use Rattle.bench_pact.specs.declared.View.{View}
+use Rattle.bench_pact.specs.declared.Deeds.{Deeds}
+use Rattle.bench_pact.specs.Agree.{after, knower}
 use Rattle.std.specs.Prelude.{slice_set}
 use Rattle.bench.specs.declared.command.Command.{Command}
 use Rattle.bench.specs.declared.command.Command.TheVariants as command
 use Rattle.book.specs.Entered.{Entered, entered_in}
-use Rattle.crew.specs.Work.{is_turn}
+use Rattle.book_crew.specs.Work.{is_turn}
 use Rattle.bench.specs.Seats.{events_by}
 use Rattle.bench.specs.Desk.{IsDesk}
 use Rattle.bench.specs.Author.{IsEntered, IsActOf, IsStep, EntersAct, Marks, EntersNone, Refuses, command_refusal, mark_of}

@@ -7,14 +7,14 @@ use Rattle.ids.specs.declared.names.VatNo.{VatNo}
 use Rattle.heap.specs.State as heap
 use Rattle.heap.specs.State.{pending, view_cell}
 use Rattle.post.specs.Messages.{Message, flies_to, waits_at}
-use Rattle.worldcells.specs.World.{message_of, published_as, vat_state}
+use Rattle.world_cells.specs.World.{message_of, published_as, vat_state}
 use Rattle.event.specs.Forwarding.{onward_of}
 use Rattle.event.specs.Ready.{IsReady, lost_message, misplaced, early, place_of}
 use Rattle.event.specs.declared.ready.Unready.{Unready}
-use Rattle.agenda.specs.Agendas.{is_open}
-use Rattle.agenda.specs.Enabled.{MayDo, may_arrive, may_forward, may_turn, may_learn}
-use Rattle.agenda.specs.declared.agenda.Step.{Step}
-use Rattle.agenda.specs.declared.agenda.Step.TheVariants as step
+use Rattle.book_agenda.specs.Agendas.{is_open}
+use Rattle.book_agenda.specs.Enabled.{MayDo, may_arrive, may_forward, may_turn, may_learn}
+use Rattle.book_agenda.specs.declared.agenda.Step.{Step}
+use Rattle.book_agenda.specs.declared.agenda.Step.TheVariants as step
 use Rattle.desk.specs.Desks.{has_vat}
 use Rattle.book.specs.Books.{Book}
 use Rattle.book.specs.Fault.{Tells}

@@ -9,11 +9,11 @@ use Rattle.std.specs.Prelude.{cond, not, ◌==◌, Result, Ok, Err, IfOk, IfErr,
 use Rattle.ids.specs.declared.names.EventName.{EventName}
 use Rattle.ids.specs.declared.names.MsgId.{MsgId}
 use Rattle.std.proofs.lemmas.List.{map-append}
-use Rattle.worldcells.specs.Events.{Act, Event, Noted, event_in}
-use Rattle.worldcells.specs.EventView.{event_of}
-use Rattle.worldcells.specs.declared.event.Event as code
-use Rattle.agenda.specs.declared.agenda.Step.{Step}
-use Rattle.agenda.specs.declared.agenda.Step.TheVariants as step
+use Rattle.world_cells.specs.Events.{Act, Event, Noted, event_in}
+use Rattle.world_cells.specs.EventView.{event_of}
+use Rattle.world_cells.specs.declared.event.Event as code
+use Rattle.book_agenda.specs.declared.agenda.Step.{Step}
+use Rattle.book_agenda.specs.declared.agenda.Step.TheVariants as step
 use Rattle.event.specs.Events.{Foot}
 use Rattle.turn.specs.Tasks.{task_of}
 use Rattle.turn.specs.declared.ticket.Out.{Out}
@@ -25,8 +25,8 @@ use Rattle.book.specs.Calls.{Enters, Lends, Commits, Tells, lent_of}
 use Rattle.book.specs.Good.{IsGood}
 use Rattle.book.specs.declared.fault.BookFault.{BookFault}
 use Rattle.book.specs.declared.fault.BookFault.TheVariants as fault
-use Rattle.crew.specs.Work.{is_work, IsFromWorker, IsGreatestSeat, Worked, is_turn, turns_among}
-use Rattle.pact.specs.declared.Act.TheVariants.{Closes}
+use Rattle.book_crew.specs.Work.{is_work, IsFromWorker, IsGreatestSeat, Worked, is_turn, turns_among}
+use Rattle.bench_pact.specs.declared.Act.TheVariants.{Closes}
 use Rattle.bench.specs.declared.pick.Pick.{Pick}
 use Rattle.bench.specs.declared.pick.Pick.TheVariants as pick
 use Rattle.bench.specs.declared.command.Command.TheVariants as command

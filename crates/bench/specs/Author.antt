@@ -4,13 +4,13 @@ use Rattle.ids.specs.declared.names.EventName.{EventName}
 use Rattle.ids.specs.declared.names.MsgId.{MsgId}
 use Rattle.ids.specs.declared.names.VatNo.{VatNo}
 use Rattle.kernele.specs.View.{program_of}
-use Rattle.worldcells.specs.Events.{Act, birth, ask, arrive, forward, learn, turn, Event}
-use Rattle.worldcells.specs.World.{vat_named}
+use Rattle.world_cells.specs.Events.{Act, birth, ask, arrive, forward, learn, turn, Event}
+use Rattle.world_cells.specs.World.{vat_named}
 use Rattle.post.specs.Messages.{Vat}
 use Rattle.event.specs.Events.{Foot}
-use Rattle.agenda.specs.Enabled.{First}
-use Rattle.agenda.specs.declared.agenda.Step.{Step}
-use Rattle.agenda.specs.declared.agenda.Step.TheVariants as step
+use Rattle.book_agenda.specs.Enabled.{First}
+use Rattle.book_agenda.specs.declared.agenda.Step.{Step}
+use Rattle.book_agenda.specs.declared.agenda.Step.TheVariants as step
 use Rattle.desk.specs.Desks.{has_vat, is_out, without}
 use Rattle.turn.specs.declared.ticket.Ran.{Ran}
 use Rattle.book.specs.Books.{Book}
@@ -19,8 +19,8 @@ use Rattle.book.specs.Fault.{Tells, told_by}
 use Rattle.book.specs.declared.fault.BookFault.{BookFault}
 use Rattle.book.specs.declared.fault.BookFault.TheVariants.{NoTicket, Memory}
 use Rattle.book.specs.Refusals.{Refusal, first, budget_refusal, full_refusal, birth_refusal, ask_refusal, arrival_refusal, forward_refusal, learn_refusal, undo_refusal, redo_refusal, exchange_refusal, refuse_where, no_ticket}
-use Rattle.pact.specs.declared.Act as pact
-use Rattle.pact.specs.declared.Act.TheVariants.{Nothing, Opens, Closes}
+use Rattle.bench_pact.specs.declared.Act as pact
+use Rattle.bench_pact.specs.declared.Act.TheVariants.{Nothing, Opens, Closes}
 use Rattle.bench.specs.declared.command.Command.{Command}
 use Rattle.bench.specs.declared.command.Command.TheVariants as command
 use Rattle.bench.specs.declared.pick.Pick.{Pick}

@@ -3,21 +3,21 @@ use Rattle.std.specs.Prelude.{◌≡◌, ℕ, ◌+◌, ◌==◌, ◌≤◌, nat_
 use Rattle.std.specs.Coded.{Coded, code_by, coded×, coded_ℕ}
 use Rattle.std.specs.List.{AllByRecursion, list_any}
 use Rattle.ids.specs.declared.names.EventName.{EventName}
-use Rattle.worldcells.specs.Events.{Event}
-use Rattle.worldcells.specs.EventView.{event_of}
-use Rattle.worldcells.specs.declared.event.Event as code
+use Rattle.world_cells.specs.Events.{Event}
+use Rattle.world_cells.specs.EventView.{event_of}
+use Rattle.world_cells.specs.declared.event.Event as code
 use Rattle.desk.specs.Desks.{Lent, without}
 use Rattle.book.specs.Books.{Book}
 use Rattle.book.specs.declared.fault.BookFault.{BookFault}
 use Rattle.book.specs.declared.fault.BookFault.TheVariants as fault
-use Rattle.pact.specs.declared.View.{View}
-use Rattle.pact.specs.contracts.Deeds as deeds
-use Rattle.pact.specs.declared.Deeds.{Deeds}
-use Rattle.pact.specs.declared.Act.{Act}
-use Rattle.pact.specs.declared.Act.TheVariants.{Nothing, Enters, Gives, Opens, Closes}
-use Rattle.pact.specs.Agree.{blank, after, IsKeeper, IsHolder, strike}
+use Rattle.bench_pact.specs.declared.View.{View}
+use Rattle.bench_pact.specs.contracts.Deeds as deeds
+use Rattle.bench_pact.specs.declared.Deeds.{Deeds}
+use Rattle.bench_pact.specs.declared.Act.{Act}
+use Rattle.bench_pact.specs.declared.Act.TheVariants.{Nothing, Enters, Gives, Opens, Closes}
+use Rattle.bench_pact.specs.Agree.{blank, after, IsKeeper, IsHolder, strike}
 use Rattle.book.specs.Entered.{Entered, entered_in, IsAmong}
-use Rattle.crew.specs.Work.{is_turn}
+use Rattle.book_crew.specs.Work.{is_turn}
 use Rattle.bench.specs.Seats.{events_by, turns_in}
 use Rattle.bench.specs.declared.under_lock.TheConstants.{LAST_SEAT}
 

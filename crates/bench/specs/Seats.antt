@@ -1,8 +1,8 @@
 -- What was entered from each seat.
 use Rattle.std.specs.Prelude.{◌≡◌, ℕ, ◌==◌, true, List, map, filter, count_by, All}
-use Rattle.worldcells.specs.Events.{Event}
+use Rattle.world_cells.specs.Events.{Event}
 use Rattle.book.specs.Entered.{Entered}
-use Rattle.crew.specs.Work.{is_turn, is_work}
+use Rattle.book_crew.specs.Work.{is_turn, is_work}
 
 -- the events of a seat
 abbrev pub events_by : ℕ → List Entered → List Event

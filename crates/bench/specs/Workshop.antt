@@ -3,7 +3,7 @@ use Rattle.std.specs.Prelude.{◌≡◌, ℕ, ◌+◌, ◌<◌, ◌≤◌, nat_l
 use Rattle.journal.specs.Lines.{Line}
 use Rattle.desk.specs.Desks.{Lent}
 use Rattle.book.specs.Books.{Book}
-use Rattle.crew.specs.Work.{IsFromWorker, IsGreatestSeat, turns_among}
+use Rattle.book_crew.specs.Work.{IsFromWorker, IsGreatestSeat, turns_among}
 
 -- a ticket that is out was lent to a worker, under one of these numbers, or was out before
 abbrev pub IsLent : (before first behind : ℕ) → List Lent → Lent → Type 0

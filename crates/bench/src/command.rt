@@ -3,12 +3,12 @@ ghost use Rattle.std.specs.Prelude.{◌≡◌, IfOk, IfErr, OnErr};
 ghost use Rattle.book.specs.BookView.{book_of};
 ghost use Rattle.bench.specs.Author.{Obeys, Refuses};
 
+use bench_pact::Act;
 use book::book::Book;
 use book::fault::BookFault;
 use ids::names::{EventName, MsgId, PromId};
 use ids::text::Text;
 use kernele::tree::Program;
-use pact::Act;
 
 /// What an author asks of a Bench: each is the call of the book of that name.
 #[derive(Drop)]

@@ -1,12 +1,12 @@
 // The event that a book entered last.
 ghost use Rattle.std.specs.Prelude.{◌≡◌, ◌<◌, List, [], ◌∷◌, ◌++◌, length};
-ghost use Rattle.worldcells.specs.EventView.{event_of};
+ghost use Rattle.world_cells.specs.EventView.{event_of};
 ghost use Rattle.book.specs.BookView.{book_of};
 ghost use Rattle.book.specs.Entered.{Entered, entered_in};
 
 use book::book::Book;
 use std::snapshot::Snapshot;
-use worldcells::event::Event;
+use world_cells::event::Event;
 
 /// The event of the last entry, for proofs alone.
 pub(crate) fn last_event(book: &Book) -> Snapshot<Event>

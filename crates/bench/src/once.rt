@@ -3,7 +3,7 @@ ghost use Rattle.std.specs.Prelude.{◌≡◌, ◌<◌, ◌≤◌, IfOk, IfErr};
 ghost use Rattle.book.specs.BookView.{book_of};
 ghost use Rattle.book.specs.Entered.{entered_in};
 ghost use Rattle.book.specs.declared.book.TheConstants.{MOST_STEPS};
-ghost use Rattle.crew.specs.Work.{StopsWork, Worked};
+ghost use Rattle.book_crew.specs.Work.{StopsWork, Worked};
 
 use crate::start::Begun;
 use crate::work::{Gate, work_at};

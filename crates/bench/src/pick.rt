@@ -3,9 +3,9 @@ ghost use Rattle.std.specs.Prelude.{◌≡◌, IfOk, IfErr, OnErr};
 ghost use Rattle.book.specs.BookView.{book_of};
 ghost use Rattle.bench.specs.Author.{Picks, RefusesPick};
 
-use agenda::agenda::Step;
 use book::book::Book;
 use book::fault::BookFault;
+use book_agenda::agenda::Step;
 use ids::names::EventName;
 use turn::ticket::{Out, Ticket};
 

@@ -1,11 +1,11 @@
 //! A seat, which one thread holds.
 ghost use Rattle.std.specs.Prelude.{◌≡◌, [], ◌+◌, ◌^◌, ◌<◌, ◌≤◌, Some, length, slice_get, slice_set};
 ghost use Rattle.crossbeam_utils.specs.Seq.{cell_view};
-ghost use Rattle.pact.specs.Agree.{blank, holder, knower, after, entered_by, IsKeeper};
+ghost use Rattle.bench_pact.specs.Agree.{blank, holder, knower, after, entered_by, IsKeeper};
 ghost use Rattle.bench.specs.Desk.{IsFit, events_of, held};
 ghost use Rattle.bench.specs.Seats.{turns_in};
 
-use pact::{Act, Cell, Token, note};
+use bench_pact::{Act, Cell, Token, note};
 use std::marker::{Brand, Model, PhantomData};
 use std::sync::Wait;
 use std::sync::ledger::{Book as Entries, Ledger, Share};
@@ -31,7 +31,7 @@ pub trait Opening: Ledger {
 
 impl Opening for Brand {
     ghost use Rattle.std.specs.Prelude.{[]};
-    ghost use Rattle.pact.specs.Agree.{no_table};
+    ghost use Rattle.bench_pact.specs.Agree.{no_table};
 
     ghost table = { no_table };
 

@@ -2,12 +2,12 @@
 ghost use Rattle.std.specs.Prelude.{◌≡◌, ◌≤◌, IfOk, IfErr};
 ghost use Rattle.book.specs.BookView.{book_of};
 ghost use Rattle.book.specs.Entered.{entered_in};
-ghost use Rattle.crew.specs.Work.{IsGreatestSeat};
+ghost use Rattle.book_crew.specs.Work.{IsGreatestSeat};
 
 use crate::seat::Opening;
 use crate::under_lock::Desk;
+use bench_pact::{Cell, Token, begin};
 use book::book::Book;
-use pact::{Cell, Token, begin};
 use std::alloc::{AllocError, Global};
 use std::marker::Model;
 use std::sync::ledger::Blank;
@@ -25,8 +25,8 @@ impl Model for Begun {
     ghost use Rattle.std.specs.Prelude.{◌≡◌, []};
     ghost use Rattle.crossbeam_utils.specs.Seq.{cell_view};
     ghost use Rattle.book.specs.BookView.{book_of};
-    ghost use Rattle.pact.specs.Agree.{knower};
-    ghost use Rattle.crew.specs.Work.{IsGreatestSeat};
+    ghost use Rattle.bench_pact.specs.Agree.{knower};
+    ghost use Rattle.book_crew.specs.Work.{IsGreatestSeat};
     ghost use Rattle.bench.specs.DeskView.{Start, start_code};
 
     ghost Value = { Start };

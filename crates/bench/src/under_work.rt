@@ -1,23 +1,23 @@
 //! What lies under the lock of a workshop: the desk of its book, and what became of the book since work began.
 ghost use Rattle.std.specs.Prelude.{◌≡◌, ℕ, ◌<◌, ◌≤◌, IfOk, IfErr, IfSome, true};
 ghost use Rattle.book.specs.BookView.{book_of};
-ghost use Rattle.pact.specs.declared.Act.TheVariants.{Closes};
-ghost use Rattle.pact.specs.Agree.{blank};
+ghost use Rattle.bench_pact.specs.declared.Act.TheVariants.{Closes};
+ghost use Rattle.bench_pact.specs.Agree.{blank};
 ghost use Rattle.bench.specs.Author.{Picked, turn_of};
 ghost use Rattle.bench.specs.Desk.{events_of, held, refused, Returns};
 ghost use Rattle.bench.specs.Seats.{AreWork};
-ghost use Rattle.crew.specs.Work.{IsGreatestSeat, Worked};
+ghost use Rattle.book_crew.specs.Work.{IsGreatestSeat, Worked};
 
 use crate::command::Command;
 use crate::pick::Pick;
 use crate::seat::Seat;
 use crate::under_lock::Desk;
 use crate::workshop::Shift;
+use bench_pact::Cell;
 use book::book::Book;
 use book::fault::BookFault;
 use book::theorems::journals_are_good;
 use ids::names::EventName;
-use pact::Cell;
 use std::marker::Model;
 use std::sync::Wait;
 use turn::ticket::{Ran, Ticket};

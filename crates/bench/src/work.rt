@@ -4,7 +4,7 @@
 ghost use Rattle.std.specs.Prelude.{◌≡◌, ◌≤◌, ◌∷◌, [], All, IfOk, IfErr, sum_by};
 ghost use Rattle.bench.specs.Seats.{turns_in, AreWork};
 ghost use Rattle.bench.specs.Desk.{events_of};
-ghost use Rattle.crew.specs.Work.{StopsWork};
+ghost use Rattle.book_crew.specs.Work.{StopsWork};
 
 use crate::Bench;
 use crate::errand::Errand;

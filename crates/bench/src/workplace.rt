@@ -1,7 +1,7 @@
 //! Where workers have their seats, and find what they do.
 ghost use Rattle.std.specs.Prelude.{◌≡◌, IfOk, IfErr, IfSome};
-ghost use Rattle.pact.specs.Agree.{blank};
-ghost use Rattle.pact.specs.declared.Act.TheVariants.{Closes};
+ghost use Rattle.bench_pact.specs.Agree.{blank};
+ghost use Rattle.bench_pact.specs.declared.Act.TheVariants.{Closes};
 ghost use Rattle.bench.specs.Author.{Picked, turn_of};
 ghost use Rattle.bench.specs.Desk.{events_of, held, refused, Returns};
 ghost use Rattle.bench.specs.Seats.{AreWork};

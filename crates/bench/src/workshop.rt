@@ -1,6 +1,6 @@
 //! A book that workers alone have, under a lock.
 ghost use Rattle.std.specs.Prelude.{◌≡◌, ◌<◌, ◌≤◌, true};
-ghost use Rattle.crew.specs.Work.{Worked};
+ghost use Rattle.book_crew.specs.Work.{Worked};
 ghost use Rattle.book.specs.Entered.{entered_in};
 ghost use Rattle.book.specs.BookView.{book_of};
 ghost use Rattle.book.specs.declared.book.TheConstants.{MOST_STEPS};
@@ -10,10 +10,10 @@ use crate::seat::{Opening, Seat};
 use crate::start::Begun;
 use crate::under_work::WorkDesk;
 use crate::workplace::Workplace;
+use bench_pact::Cell;
 use book::book::Book;
 use book::fault::BookFault;
 use ids::names::EventName;
-use pact::Cell;
 use std::marker::Brand;
 use std::sync::ledger::Blank;
 use std::sync::{Mutex, Wait};

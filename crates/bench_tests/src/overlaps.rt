@@ -20,7 +20,7 @@ use std::sync::ledger::Blank;
 use std::thread;
 use std::thread::Threads;
 use std::time::{Clock, Duration};
-use worldcells::event::Action;
+use world_cells::event::Action;
 
 /// Holds the turn of each question until that of the next one was run, for a second at most.
 #[derive(Drop)]

@@ -11,8 +11,8 @@ use Rattle.heap.specs.State as heap
 use Rattle.heap.specs.State.{pending, resolved, view_cell}
 use Rattle.post.specs.Delivery.{Delivery, Call, opening, asked, sent, waiting}
 use Rattle.post.specs.Messages.{Message, Place, Published, at_vat, flying, flies_to, waits_at, arrived, forwarded}
-use Rattle.worldcells.specs.Events.{arrive, forward, learn}
-use Rattle.worldcells.specs.World.{World, message, message_in, message_of, published_as, published_in, published}
+use Rattle.world_cells.specs.Events.{arrive, forward, learn}
+use Rattle.world_cells.specs.World.{World, message, message_in, message_of, published_as, published_in, published}
 use Rattle.event.specs.Events.{Foot, Does, arrives, forwards, learns, goes_on, moved_foot, learn_foot}
 use Rattle.event.specs.Effects.{BringsLearnt, Happens}
 use Rattle.event.specs.declared.effects.Effects.{Effects}
@@ -21,7 +21,7 @@ use Rattle.event.specs.Ready.{lost, place_of}
 use Rattle.event.specs.Walks.{board_walk}
 use Rattle.event.specs.declared.ready.Unready.{Unready}
 use Rattle.event.proofs.Noted.{quietly}
-use Rattle.agenda.specs.Agendas.{can_learn, is_open, open_view}
+use Rattle.book_agenda.specs.Agendas.{can_learn, is_open, open_view}
 use Rattle.book.specs.Books.{Book}
 use Rattle.book.specs.Calls.{AdmitsArrival, AdmitsForward, CanLearn}
 use Rattle.book.specs.Refusals.{Refusal, first, refuse_where, no_message, not_there, not_ready, nothing_to_learn, refusal_of, arrival_refusal, arrival_refusal_by, onward_refusal, forward_refusal, learning_refusal, full_refusal}

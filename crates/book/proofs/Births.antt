@@ -16,15 +16,15 @@ use Rattle.ids.proofs.CellKeys.{same_exact as key_exact}
 use Rattle.kernele.specs.Tree.{Name, Trees}
 use Rattle.heap.specs.State as heap
 use Rattle.heap.specs.State.{Cell, top, slot_cell, object_cell, view_cell, fence_cell}
-use Rattle.scopes.specs.Scope.{own_names_in}
+use Rattle.kernele_scopes.specs.Scope.{own_names_in}
 use Rattle.post.specs.Messages.{Vat, done, Message, Published}
-use Rattle.worldcells.specs.Events.{Act, birth, ask, arrive, forward, learn, turn, Event, event_in}
-use Rattle.worldcells.specs.World.{Content, vat, message, World, empty, vat_in, vat_named, cell_key}
+use Rattle.world_cells.specs.Events.{Act, birth, ask, arrive, forward, learn, turn, Event, event_in}
+use Rattle.world_cells.specs.World.{Content, vat, message, World, empty, vat_in, vat_named, cell_key}
 use Rattle.event.specs.Events.{events, in_world, letters_from, on_the_board, counted, Turn, made_by, births, asks, arrives, forwards, learns, turns}
 use Rattle.journal.specs.Lines.{plain, entries_in}
-use Rattle.ordering.specs.Theorems.{HaveOwnNames}
-use Rattle.ordering.proofs.Runs.{own_names}
-use Rattle.ordering.proofs.Written.{Passes, passed, all_pass}
+use Rattle.event_ordering.specs.Theorems.{HaveOwnNames}
+use Rattle.event_ordering.proofs.Runs.{own_names}
+use Rattle.event_ordering.proofs.Written.{Passes, passed, all_pass}
 use Rattle.book.specs.Books.{Book}
 use Rattle.book.specs.Good.{IsGood, NamesVatsOnce, live_events}
 use Rattle.book.proofs.Ordered.{run_of}

@@ -11,8 +11,8 @@ use Rattle.history.specs.Chains.{last_writer}
 use Rattle.history.specs.Records.{State, Row, contents, entries_of}
 use Rattle.history.proofs.Standing.{last_shown}
 use Rattle.ids.specs.declared.cells.CellKey.{CellKey}
-use Rattle.worldcells.specs.Events.{Noted, event_in}
-use Rattle.worldcells.specs.Theory.{cells}
+use Rattle.world_cells.specs.Events.{Noted, event_in}
+use Rattle.world_cells.specs.Theory.{cells}
 use Rattle.event.specs.Events.{DoesNoted, events, noted_events}
 use Rattle.event.proofs.Law.{noted_laws}
 use Rattle.event.proofs.Noted.{live_run}

@@ -5,7 +5,7 @@ use Rattle.ids.specs.declared.names.MsgId.{MsgId}
 use Rattle.ids.specs.declared.names.VatNo.{VatNo}
 use Rattle.ids.specs.declared.cells.CellKey.TheVariants as key
 use Rattle.post.specs.Messages.{Message, Place, at_vat, waits_at}
-use Rattle.worldcells.specs.World.{World, message, message_in, message_of}
+use Rattle.world_cells.specs.World.{World, message, message_in, message_of}
 use Rattle.event.specs.Ready.{lost, early, early_by, leads_there, first_undone, place_of, unready_at, unready_message}
 use Rattle.event.specs.Walks.{awaited}
 use Rattle.event.specs.ReadyView.{IsUnready}

@@ -12,8 +12,8 @@ use Rattle.history.specs.Records.{State, Row}
 use Rattle.history.specs.Walks.{step_at, walk}
 use Rattle.history.proofs.Lists.{all_map, all_mapped, all_reversed}
 use Rattle.ids.specs.declared.names.EventName.{EventName}
-use Rattle.worldcells.specs.World.{World}
-use Rattle.worldcells.specs.Theory.{cells}
+use Rattle.world_cells.specs.World.{World}
+use Rattle.world_cells.specs.Theory.{cells}
 use Rattle.event.specs.Events.{DoesNoted, noted_events}
 use Rattle.journal.specs.Items.{Item, swap_item}
 use Rattle.journal.specs.Lines.{plain, Line, entries_in, lines_of}

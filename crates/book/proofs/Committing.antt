@@ -14,15 +14,15 @@ use Rattle.ids.specs.declared.cells.CellKey.TheVariants as key
 use Rattle.heap.specs.Found.{Found as FoundCells, touched_in}
 use Rattle.heap.specs.State.{State}
 use Rattle.heap.specs.View.{state_of as heap_state_of}
-use Rattle.worldcells.specs.Events.{Noted, turn}
+use Rattle.world_cells.specs.Events.{Noted, turn}
 use Rattle.post.specs.MessageView.{message_of}
-use Rattle.worldcells.specs.Theory.{cells, kepts_of}
+use Rattle.world_cells.specs.Theory.{cells, kepts_of}
 use Rattle.post.specs.Messages.{Message, Place, at_vat}
-use Rattle.worldcells.specs.World.{World, Content, message, vat_state}
-use Rattle.worldcells.specs.World.{message_of as world_message}
-use Rattle.deliveries.specs.Turn.{Found}
-use Rattle.deliveries.specs.Outcomes.{outcome_on, written_by}
-use Rattle.erules.specs.OutboxView.{outbox_of}
+use Rattle.world_cells.specs.World.{World, Content, message, vat_state}
+use Rattle.world_cells.specs.World.{message_of as world_message}
+use Rattle.turn_deliveries.specs.Turn.{Found}
+use Rattle.turn_deliveries.specs.Outcomes.{outcome_on, written_by}
+use Rattle.eval_rules.specs.OutboxView.{outbox_of}
 use Rattle.event.specs.Events.{DoesNoted, Foot, AreNew, DeliversOn, Turn, Turns, turns, turn_foot, letters_from, noted_events}
 use Rattle.event.specs.Effects.{BringsTurn}
 use Rattle.event.specs.Ready.{early, lost}

@@ -6,9 +6,9 @@ use Rattle.std.proofs.lemmas.List.Sums.{sum-map, sum_by-cons}
 use Rattle.history.specs.Records.{State, Record, hold, swap_record}
 use Rattle.ids.specs.declared.names.EventName.{EventName}
 use Rattle.ids.specs.declared.cells.CellKey.{CellKey}
-use Rattle.worldcells.specs.Events.{Noted}
-use Rattle.worldcells.specs.Theory.{cells}
-use Rattle.worldcells.specs.View.{RisesBy}
+use Rattle.world_cells.specs.Events.{Noted}
+use Rattle.world_cells.specs.Theory.{cells}
+use Rattle.world_cells.specs.View.{RisesBy}
 use Rattle.journal.specs.Items.{Item, keys_at, key_count, records_at, swap_item, entered}
 use Rattle.journal.specs.Lines.{Line, line_of, lines_of}
 use Rattle.causality.specs.Selections.{chosen, places_from}

@@ -11,11 +11,11 @@ use Rattle.history.proofs.Lists.{all_map, all_both}
 use Rattle.history.proofs.Naming.{causes_named, causes_below, free_causes, free_from}
 use Rattle.ids.specs.CellKeys.{same_key}
 use Rattle.ids.specs.declared.cells.CellKey.{CellKey}
-use Rattle.erules.specs.OutboxView.{note_of}
-use Rattle.erules.specs.declared.outbox.Note.{Note}
-use Rattle.worldcells.specs.Events.{Event, Noted, with_notes}
-use Rattle.worldcells.specs.Theory.{cells}
-use Rattle.worldcells.specs.World.{World}
+use Rattle.eval_rules.specs.OutboxView.{note_of}
+use Rattle.eval_rules.specs.declared.outbox.Note.{Note}
+use Rattle.world_cells.specs.Events.{Event, Noted, with_notes}
+use Rattle.world_cells.specs.Theory.{cells}
+use Rattle.world_cells.specs.World.{World}
 use Rattle.event.specs.Events.{Foot, DoesNoted, noted_events}
 use Rattle.event.specs.Effects.{Brings, Happens}
 use Rattle.event.specs.declared.effects.Effects.{Effects}

@@ -11,7 +11,7 @@ use Rattle.history.specs.Records.{State, Row, contents, entries_of}
 use Rattle.history.specs.Chains.{HasCells}
 use Rattle.history.proofs.Lists.{all_map, all_mapped, all_swap}
 use Rattle.ids.specs.declared.names.EventName.{EventName}
-use Rattle.worldcells.specs.Theory.{cells}
+use Rattle.world_cells.specs.Theory.{cells}
 use Rattle.event.specs.Events.{DoesNoted, noted_events}
 use Rattle.event.proofs.Law.{noted_laws}
 use Rattle.journal.specs.Items.{Item, item_of, wrote_one_of, may_exchange, neighbours, exchanged}

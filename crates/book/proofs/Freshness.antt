@@ -3,9 +3,9 @@ use Rattle.std.proofs.Common.{◌≡◌, Some, None, sym, ◌∙◌, subst}
 use Rattle.ids.specs.declared.cells.CellKey.TheVariants as key
 use Rattle.heap.specs.State.{State}
 use Rattle.post.specs.MessageView.{message_of}
-use Rattle.worldcells.specs.World.{World, message, vat_state}
-use Rattle.deliveries.specs.Outcomes.{found_of}
-use Rattle.erules.specs.OutboxView.{outbox_of}
+use Rattle.world_cells.specs.World.{World, message, vat_state}
+use Rattle.turn_deliveries.specs.Outcomes.{found_of}
+use Rattle.eval_rules.specs.OutboxView.{outbox_of}
 use Rattle.event.specs.Events.{AreNew, letters_from}
 use Rattle.event.specs.Effects.{BringsTurn, turn_of}
 use Rattle.event.specs.Ready.{unready_at}

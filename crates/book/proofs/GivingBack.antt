@@ -6,8 +6,8 @@ use Rattle.std.proofs.Math.Logic.{∥∥₁_elim}
 use Rattle.history.proofs.Core.{runs_are_one}
 use Rattle.history.proofs.Lists.{put_back}
 use Rattle.ids.specs.declared.names.EventName.{EventName}
-use Rattle.worldcells.specs.Events.{Event}
-use Rattle.worldcells.specs.World.{World}
+use Rattle.world_cells.specs.Events.{Event}
+use Rattle.world_cells.specs.World.{World}
 use Rattle.event.specs.Events.{events}
 use Rattle.event.proofs.Law.{events_laws}
 use Rattle.journal.specs.Lines.{Line}

@@ -12,9 +12,9 @@ use Rattle.history.specs.Records.{Row, Fits, contents, entries_of}
 use Rattle.history.proofs.Changes.{good_runs}
 use Rattle.history.proofs.Lists.{all_map, all_both, all_of, all_mapped, all_reversed}
 use Rattle.history.proofs.Naming.{named_reversed}
-use Rattle.worldcells.specs.Events.{Noted}
-use Rattle.worldcells.specs.World.{World}
-use Rattle.worldcells.specs.Theory.{cells}
+use Rattle.world_cells.specs.Events.{Noted}
+use Rattle.world_cells.specs.World.{World}
+use Rattle.world_cells.specs.Theory.{cells}
 use Rattle.event.specs.Events.{DoesNoted, noted_events}
 use Rattle.event.proofs.Law.{noted_laws}
 use Rattle.journal.specs.Items.{Item}

@@ -3,7 +3,7 @@ use Rattle.std.proofs.Common.{◌≡◌, ℕ, zero, suc, ◌<◌, List, [], ◌�
 use Rattle.ids.specs.declared.names.VatNo.{VatNo}
 use Rattle.kernele.specs.Tree.{Name}
 use Rattle.post.specs.Messages.{Vat}
-use Rattle.worldcells.specs.World.{World, vat_named}
+use Rattle.world_cells.specs.World.{World, vat_named}
 use Rattle.event.specs.Events.{AreNamed}
 use Rattle.event.specs.Naming.{Numbers}
 use Rattle.book.specs.Refusals.{first, no_vat, absent_refusal, named_refusal}

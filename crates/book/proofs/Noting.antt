@@ -6,23 +6,23 @@ use Rattle.history.specs.Walks.{walk}
 use Rattle.ids.specs.CellKeys.{same_key}
 use Rattle.ids.specs.declared.names.EventName.{EventName}
 use Rattle.ids.specs.declared.cells.CellKey.{CellKey}
-use Rattle.worldcells.specs.Events as world
-use Rattle.worldcells.specs.Theory.{cells, state_of_world}
-use Rattle.worldcells.specs.View.{world_of}
-use Rattle.worldcells.specs.World.{World}
-use Rattle.worldcells.specs.declared.world.World as code
+use Rattle.world_cells.specs.Events as world
+use Rattle.world_cells.specs.Theory.{cells, state_of_world}
+use Rattle.world_cells.specs.View.{world_of}
+use Rattle.world_cells.specs.World.{World}
+use Rattle.world_cells.specs.declared.world.World as code
 use Rattle.std.specs.Prelude.{Result, IfOk}
 use Rattle.ids.specs.declared.names.VatNo.{VatNo}
 use Rattle.ids.specs.declared.names.PromId.{PromId}
 use Rattle.desk.specs.Desks.{Lent, has_vat}
 use Rattle.desk.specs.DeskView.{out_of}
 use Rattle.desk.specs.declared.desk.Desk.{Desk}
-use Rattle.agenda.specs.Enabled.{Enabled, First}
-use Rattle.agenda.specs.declared.agenda.Step.{Step}
+use Rattle.book_agenda.specs.Enabled.{Enabled, First}
+use Rattle.book_agenda.specs.declared.agenda.Step.{Step}
 use Rattle.book.specs.Books.{Book}
-use Rattle.agenda.specs.Agendas.{AlikeBut, KnownAs, can_learn}
-use Rattle.agenda.specs.AgendaView.{NotedIn, has_known, out_at}
-use Rattle.agenda.specs.declared.agenda.Agenda.{Agenda}
+use Rattle.book_agenda.specs.Agendas.{AlikeBut, KnownAs, can_learn}
+use Rattle.book_agenda.specs.AgendaView.{NotedIn, has_known, out_at}
+use Rattle.book_agenda.specs.declared.agenda.Agenda.{Agenda}
 use Rattle.journal.specs.Items.{Item, entered, swap_item}
 use Rattle.undo.specs.CoreView.{items_of, state_of, shown}
 use Rattle.undo.specs.Written.{written_at}

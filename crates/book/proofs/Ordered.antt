@@ -3,12 +3,12 @@ use Rattle.std.proofs.Common.{List, map, refl}
 use Rattle.std.proofs.Math.Logic.{∥∥₁_map}
 use Rattle.history.specs.Subject.{Run, run_none, run_more}
 use Rattle.history.specs.Journal.{Entry, live_set}
-use Rattle.worldcells.specs.Events.{event_in}
-use Rattle.worldcells.specs.World.{World, empty}
+use Rattle.world_cells.specs.Events.{event_in}
+use Rattle.world_cells.specs.World.{World, empty}
 use Rattle.event.specs.Events.{events}
 use Rattle.journal.specs.Lines.{plain, entries_in}
-use Rattle.ordering.specs.Theorems.{InOrder}
-use Rattle.ordering.proofs.Runs.{runs_in_order, own_names}
+use Rattle.event_ordering.specs.Theorems.{InOrder}
+use Rattle.event_ordering.proofs.Runs.{runs_in_order, own_names}
 use Rattle.book.specs.Books.{Book}
 use Rattle.book.specs.Good.{RunsWithCells, runs_none, runs_more, IsGood, live_events}
 

@@ -10,7 +10,7 @@ use Rattle.history.proofs.Lists.{all_map}
 use Rattle.history.proofs.Marks.{free_marked}
 use Rattle.history.proofs.Standing.{entries_redone}
 use Rattle.ids.specs.declared.names.EventName.{EventName}
-use Rattle.worldcells.specs.Theory.{cells}
+use Rattle.world_cells.specs.Theory.{cells}
 use Rattle.event.specs.Events.{DoesNoted, noted_events}
 use Rattle.event.proofs.Law.{noted_laws}
 use Rattle.journal.specs.Items.{Item, swap_item}

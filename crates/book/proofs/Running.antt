@@ -3,8 +3,8 @@ use Rattle.std.proofs.Common.{◌≡◌, ℕ, List, map, filter, reverse, sym, a
 use Rattle.history.specs.Subject.{Run, empty}
 use Rattle.history.specs.Journal.{Entry, live_set}
 use Rattle.history.specs.Records.{State, Row, contents, entries_of}
-use Rattle.worldcells.specs.Events.{Event, event_in}
-use Rattle.worldcells.specs.Theory.{cells}
+use Rattle.world_cells.specs.Events.{Event, event_in}
+use Rattle.world_cells.specs.Theory.{cells}
 use Rattle.event.specs.Events.{DoesNoted, events, noted_events}
 use Rattle.event.proofs.Law.{noted_laws}
 use Rattle.event.proofs.Noted.{live_run}

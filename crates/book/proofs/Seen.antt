@@ -2,9 +2,9 @@
 use Rattle.std.proofs.Common.{◌≡◌, sym, ap}
 use Rattle.history.specs.Records.{State, contents}
 use Rattle.ids.specs.declared.cells.CellKey.{CellKey}
-use Rattle.worldcells.specs.Theory.{cells, state_of_world}
-use Rattle.worldcells.specs.View.{world_of}
-use Rattle.worldcells.specs.declared.world.World.{World}
+use Rattle.world_cells.specs.Theory.{cells, state_of_world}
+use Rattle.world_cells.specs.View.{world_of}
+use Rattle.world_cells.specs.declared.world.World.{World}
 
 -- the world of a core holds what the core shows
 pub world_at : (w : World) (s : State cells) → state_of_world w ≡ s → (k : CellKey) → contents cells s k ≡ world_of w k

@@ -8,10 +8,10 @@ use Rattle.values.specs.Data.{Vals, Vals-set}
 use Rattle.heap.specs.Sets.{vals, binds, objects, views}
 use Rattle.heap.specs.State.{Nouns}
 use Rattle.post.specs.Delivery.{Call, Call-set, Handler, Handler-set, When, When-set, Delivery, Delivery-set}
-use Rattle.erules.specs.Outbox.{Note}
-use Rattle.worldcells.specs.Events.{Act, Noted}
+use Rattle.eval_rules.specs.Outbox.{Note}
+use Rattle.world_cells.specs.Events.{Act, Noted}
 use Rattle.post.specs.Messages.{Vat, Vat-set, Place, Place-set, Message, Message-set, Published, Published-set}
-use Rattle.worldcells.specs.World.{Content, Content-set, World}
+use Rattle.world_cells.specs.World.{Content, Content-set, World}
 use Rattle.journal.specs.Lines.{Line}
 
 names : IsSet Name

@@ -6,9 +6,9 @@ use Rattle.std.proofs.lemmas.List.Elements.{All-nil, All-cons, All-head, All-tai
 use Rattle.history.specs.Subject.{Run, run_none, run_more, empty}
 use Rattle.history.specs.Records.{State, contents}
 use Rattle.history.proofs.Core.{runs_are_one}
-use Rattle.worldcells.specs.Events.{Event, event_in}
-use Rattle.worldcells.specs.Theory.{cells}
-use Rattle.worldcells.specs.World.{World}
+use Rattle.world_cells.specs.Events.{Event, event_in}
+use Rattle.world_cells.specs.Theory.{cells}
+use Rattle.world_cells.specs.World.{World}
 use Rattle.event.specs.Events.{events}
 use Rattle.event.specs.Runs.{RunFrom, PlainRun}
 use Rattle.event.proofs.Law.{events_laws}

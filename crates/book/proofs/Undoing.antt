@@ -11,8 +11,8 @@ use Rattle.history.proofs.Lists.{all_map}
 use Rattle.history.proofs.Marks.{free_marked}
 use Rattle.history.proofs.Standing.{entries_undone}
 use Rattle.ids.specs.declared.names.EventName.{EventName}
-use Rattle.worldcells.specs.Events.{event_in}
-use Rattle.worldcells.specs.Theory.{cells}
+use Rattle.world_cells.specs.Events.{event_in}
+use Rattle.world_cells.specs.Theory.{cells}
 use Rattle.event.specs.Events.{DoesNoted, noted_events}
 use Rattle.event.proofs.Law.{noted_laws}
 use Rattle.journal.specs.Items.{Item, swap_item}

@@ -18,9 +18,9 @@ use Rattle.ids.specs.declared.cells.CellKey.TheVariants as key
 use Rattle.heap.specs.State as heap
 use Rattle.heap.specs.State.{Cell, top, slot_cell, object_cell, view_cell, fence_cell}
 use Rattle.post.specs.Messages.{Message, Published}
-use Rattle.worldcells.specs.Events.{Event, event_in}
-use Rattle.worldcells.specs.Theory.{cells}
-use Rattle.worldcells.specs.World.{World, Content, message_in, message_of, cell_key}
+use Rattle.world_cells.specs.Events.{Event, event_in}
+use Rattle.world_cells.specs.Theory.{cells}
+use Rattle.world_cells.specs.World.{World, Content, message_in, message_of, cell_key}
 use Rattle.event.specs.Events.{Foot, Does, births, asks, arrives, forwards, learns, turns, events, noted_events, letters_from, on_the_board, counted, in_world, made_by, AreNew}
 use Rattle.event.proofs.Noted.{live_run}
 use Rattle.undo.specs.CoreView.{state_of}

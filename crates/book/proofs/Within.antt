@@ -5,12 +5,12 @@ use Rattle.std.proofs.lemmas.Bool.{leb-false}
 use Rattle.std.proofs.lemmas.List.{length-append, length-map}
 use Rattle.history.specs.Records.{State, Record}
 use Rattle.ids.specs.declared.cells.CellKey.{CellKey}
-use Rattle.worldcells.specs.Events.{Noted}
-use Rattle.worldcells.specs.Theory.{cells}
+use Rattle.world_cells.specs.Events.{Noted}
+use Rattle.world_cells.specs.Theory.{cells}
 use Rattle.post.specs.Messages.{Vat}
-use Rattle.worldcells.specs.World.{vat_named}
+use Rattle.world_cells.specs.World.{vat_named}
 use Rattle.kernele.specs.Tree.{Name, Trees}
-use Rattle.scopes.specs.Scope.{checked_program, script_scopes, asked_scopes}
+use Rattle.kernele_scopes.specs.Scope.{checked_program, script_scopes, asked_scopes}
 use Rattle.journal.specs.Items.{Item, entered, exchanged}
 use Rattle.journal.specs.Lines.{Line, line_of, lines_of}
 use Rattle.undo.specs.CoreView.{items_of, settled_of, state_of, shown}

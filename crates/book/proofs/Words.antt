@@ -1,8 +1,8 @@
 -- A fault of the check is written as the refusal that it tells, or as want of memory.
 use Rattle.std.proofs.Common.{◌≡◌, refl}
-use Rattle.scopes.specs.Check as check
-use Rattle.scopes.specs.declared.checking.CheckFault.{CheckFault}
-use Rattle.scopes.specs.declared.checking.CheckFault.TheVariants as fault
+use Rattle.kernele_scopes.specs.Check as check
+use Rattle.kernele_scopes.specs.declared.checking.CheckFault.{CheckFault}
+use Rattle.kernele_scopes.specs.declared.checking.CheckFault.TheVariants as fault
 use Rattle.book.specs.Fault.{told_by_check, words_of}
 
 pub check_words : (f : CheckFault) → words_of (told_by_check f) ≡ check.fault_text f

@@ -1,7 +1,7 @@
 -- What the program's book stands for.
 use Rattle.std.specs.Prelude.{ℕ}
 use Rattle.history.specs.Records.{contents}
-use Rattle.worldcells.specs.Theory.{cells}
+use Rattle.world_cells.specs.Theory.{cells}
 use Rattle.journal.specs.Lines.{lines_of}
 use Rattle.undo.specs.CoreView.{items_of, settled_of, state_of}
 use Rattle.undo.specs.CoreView as core

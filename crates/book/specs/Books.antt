@@ -1,6 +1,6 @@
 -- The book: what has happened so far.
 use Rattle.std.specs.Prelude.{ℕ, ◌-◌, List, [], take, drop, length}
-use Rattle.worldcells.specs.World.{World, empty}
+use Rattle.world_cells.specs.World.{World, empty}
 use Rattle.journal.specs.Lines.{Line}
 use Rattle.desk.specs.Desks.{Lent}
 

@@ -15,20 +15,20 @@ use Rattle.heap.specs.State as heap
 use Rattle.heap.specs.State.{Cell, pending, view_cell}
 use Rattle.heap.specs.View.{state_of}
 use Rattle.heap.specs.Found.{Found}
-use Rattle.worldcells.specs.Events.{Event, birth, ask, arrive, forward, learn, turn, Noted, event_in, with_notes}
+use Rattle.world_cells.specs.Events.{Event, birth, ask, arrive, forward, learn, turn, Noted, event_in, with_notes}
 use Rattle.post.specs.MessageView.{message_of}
 use Rattle.post.specs.declared.message.Message as code-message
-use Rattle.worldcells.specs.World as world
+use Rattle.world_cells.specs.World as world
 use Rattle.post.specs.Messages.{Vat, Message, Published, at_vat, flying, waits_at, arrived}
-use Rattle.worldcells.specs.World.{message, published_as, vat_named, vat_state}
+use Rattle.world_cells.specs.World.{message, published_as, vat_named, vat_state}
 use Rattle.kernele.specs.Tree.{Name, Trees}
 use Rattle.event.specs.Events.{Foot, DoesNoted, events, birth_foot, ask_foot, Turn, Turns, TurnLeaves, turn_foot}
 use Rattle.event.specs.Forwarding.{onward_of}
 use Rattle.event.specs.Naming.{Numbers}
 use Rattle.event.specs.Ready.{leads_there, first_undone}
 use Rattle.event.specs.Walks.{awaited, found_by}
-use Rattle.deliveries.specs.Outcomes.{found_of}
-use Rattle.deliveries.specs.declared.lead.Lead.{Lead}
+use Rattle.turn_deliveries.specs.Outcomes.{found_of}
+use Rattle.turn_deliveries.specs.declared.lead.Lead.{Lead}
 use Rattle.event.specs.Runs.{RunFrom, PlainRun}
 use Rattle.event.specs.Effects.{turn_of}
 use Rattle.turn.specs.Tasks.{task_of}

@@ -1,7 +1,7 @@
 -- How many times a book's calls exchange a cell with a record, as the store counts it.
 use Rattle.std.specs.Prelude.{ℕ, List, map, filter, drop, length, sum}
 use Rattle.ids.specs.declared.names.EventName.{EventName}
-use Rattle.worldcells.specs.View.{RisesBy}
+use Rattle.world_cells.specs.View.{RisesBy}
 use Rattle.journal.specs.Lines.{Line}
 use Rattle.causality.specs.Selections.{chosen}
 use Rattle.book.specs.BookView.{book_of, swaps_of}

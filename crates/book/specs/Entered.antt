@@ -1,6 +1,6 @@
 -- What a journal tells of who entered what.
 use Rattle.std.specs.Prelude.{ℕ, List, ◌++◌, map, IsPermutation}
-use Rattle.worldcells.specs.Events.{Event, event_in}
+use Rattle.world_cells.specs.Events.{Event, event_in}
 use Rattle.journal.specs.Lines.{Line}
 
 -- an event, and the seat that it was entered from

@@ -6,13 +6,13 @@ use Rattle.ids.specs.declared.names.EventName.{EventName}
 use Rattle.ids.specs.declared.names.MsgId.{MsgId}
 use Rattle.event.specs.declared.ready.Delay.{Delay}
 use Rattle.event.specs.declared.ready.Delay.TheVariants as delay
-use Rattle.scopes.specs.Scope as scope
-use Rattle.scopes.specs.Words as words
-use Rattle.scopes.specs.Words.{no_memory}
-use Rattle.scopes.specs.declared.checking.CheckFault.{CheckFault}
-use Rattle.scopes.specs.declared.checking.CheckFault.TheVariants as check-fault
+use Rattle.kernele_scopes.specs.Scope as scope
+use Rattle.kernele_scopes.specs.Words as words
+use Rattle.kernele_scopes.specs.Words.{no_memory}
+use Rattle.kernele_scopes.specs.declared.checking.CheckFault.{CheckFault}
+use Rattle.kernele_scopes.specs.declared.checking.CheckFault.TheVariants as check-fault
 use Rattle.book.specs.Refusals.{Refusal, no_vat, name_taken, no_message, not_there, not_ready, before, nothing_to_learn, full, stale, vat_out, no_ticket, no_event, no_position, is_settled, not_live, still_live, not_closed, crossed, cause_missing, dependent, bad_budget, unchecked, refusal_of}
-use Rattle.worldcells.specs.World.{World}
+use Rattle.world_cells.specs.World.{World}
 use Rattle.turn.specs.declared.ticket.Task.{Task}
 use Rattle.turn.specs.declared.ticket.Ran.{Ran}
 use Rattle.book.specs.Books.{Book}

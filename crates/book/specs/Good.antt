@@ -7,8 +7,8 @@ use Rattle.ids.specs.declared.names.EventName.{EventName}
 use Rattle.ids.specs.declared.cells.CellKey.{CellKey}
 use Rattle.kernele.specs.Tree.{Name}
 use Rattle.post.specs.Messages.{Vat}
-use Rattle.worldcells.specs.Events.{Event, event_in}
-use Rattle.worldcells.specs.World.{World, empty, vat_named}
+use Rattle.world_cells.specs.Events.{Event, event_in}
+use Rattle.world_cells.specs.World.{World, empty, vat_named}
 use Rattle.event.specs.Events.{Foot, DoesNoted, events}
 use Rattle.journal.specs.Lines.{plain, entries_in}
 use Rattle.book.specs.Books.{Book, open_count, settled_lines}

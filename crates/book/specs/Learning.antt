@@ -6,13 +6,13 @@ use Rattle.ids.specs.declared.names.EventName.{EventName}
 use Rattle.ids.specs.declared.names.PromId.{PromId}
 use Rattle.kernele.specs.Tree.{Name}
 use Rattle.post.specs.Messages.{Vat}
-use Rattle.worldcells.specs.Events.{learn}
-use Rattle.worldcells.specs.World.{vat_named}
+use Rattle.world_cells.specs.Events.{learn}
+use Rattle.world_cells.specs.World.{vat_named}
 use Rattle.event.specs.Events.{Foot}
 use Rattle.book.specs.Books.{Book}
 use Rattle.book.specs.Calls.{EntersNext}
 use Rattle.book.specs.Fault.{Tells}
-use Rattle.agenda.specs.Agendas.{can_learn}
+use Rattle.book_agenda.specs.Agendas.{can_learn}
 use Rattle.book.specs.Refusals.{Refusal, learn_refusal, learning_refusal}
 use Rattle.book.specs.declared.fault.BookFault.{BookFault}
 

@@ -3,17 +3,17 @@ use Rattle.std.specs.Prelude.{ℕ, zero, suc, is_some, ◌||◌, ◌==◌, ◌+�
 use Rattle.std.specs.Option.{option_map}
 use Rattle.history.specs.Subject.{meets}
 use Rattle.kernele.specs.Tree.{Name, Trees}
-use Rattle.scopes.specs.Scope.{Checked, checked_program, script_scopes, asked_scopes}
-use Rattle.scopes.specs.Scope as scope
+use Rattle.kernele_scopes.specs.Scope.{Checked, checked_program, script_scopes, asked_scopes}
+use Rattle.kernele_scopes.specs.Scope as scope
 use Rattle.ids.specs.declared.names.EventName.{EventName}
 use Rattle.ids.specs.declared.names.VatNo.{VatNo}
 use Rattle.ids.specs.declared.names.MsgId.{MsgId}
 use Rattle.ids.specs.declared.names.PromId.{PromId}
 use Rattle.post.specs.Messages.{Vat, flies_to, waits_at, Message}
-use Rattle.worldcells.specs.World.{World, vat_named, message_of}
+use Rattle.world_cells.specs.World.{World, vat_named, message_of}
 use Rattle.event.specs.Ready.{lost, early, place_of}
 use Rattle.event.specs.Forwarding.{onward_of}
-use Rattle.agenda.specs.Agendas.{can_learn}
+use Rattle.book_agenda.specs.Agendas.{can_learn}
 use Rattle.event.specs.declared.ready.Unready.{Unready}
 use Rattle.event.specs.declared.ready.Unready.TheVariants as why
 use Rattle.journal.specs.Lines.{plain, Line}

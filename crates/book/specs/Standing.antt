@@ -3,7 +3,7 @@ use Rattle.std.specs.Prelude.{ℕ, ◌<◌, ◌≢◌, List, [], ◌∷◌}
 use Rattle.std.specs.List.{AllByRecursion}
 use Rattle.history.specs.Journal.{Free}
 use Rattle.history.specs.Records.{Row, entries_of}
-use Rattle.worldcells.specs.World.{empty}
+use Rattle.world_cells.specs.World.{empty}
 use Rattle.event.specs.Events.{DoesNoted, noted_events}
 use Rattle.desk.specs.Desks.{Lent}
 use Rattle.undo.specs.Standing.{CoreStands}

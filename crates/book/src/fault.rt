@@ -8,7 +8,7 @@ ghost use Rattle.book.specs.Refusals.{Refusal, refusal_of};
 use event::ready::{Delay, Unready};
 use ids::names::{EventName, MsgId};
 use ids::text::Text;
-use scopes::CheckFault;
+use kernele_scopes::CheckFault;
 use std::alloc::{AllocError, AllocFailed};
 use std::fmt;
 use std::fmt::{Debug, Display, Formatter, Write};

@@ -2,7 +2,7 @@
 ghost use Rattle.std.specs.Prelude.{◌≡◌, IfOk, IfErr, OnOk, OnErr};
 ghost use Rattle.ids.specs.declared.names.VatNo.{VatNo};
 ghost use Rattle.kernele.specs.View.{program_of};
-ghost use Rattle.worldcells.specs.Events.{birth, ask, arrive, forward, learn};
+ghost use Rattle.world_cells.specs.Events.{birth, ask, arrive, forward, learn};
 ghost use Rattle.book.specs.Refusals.{birth_refusal, ask_refusal, arrival_refusal, forward_refusal, learn_refusal, learning_refusal};
 ghost use Rattle.book.specs.Calls.{Arrives, Asks, Births, Forwards, Learns, LearnsAt};
 ghost use Rattle.book.specs.Fault.{Tells};

@@ -3,7 +3,7 @@ ghost use Rattle.book.specs.Calls.{RedoNextGivesBack};
 ghost use Rattle.book.specs.Good.{IsGood, NamesVatsOnce, RedoNextIsAllowed, live_events};
 ghost use Rattle.book.specs.Standing.{Apart};
 ghost use Rattle.book.specs.BookView.{book_of};
-ghost use Rattle.ordering.specs.Theorems.{InOrder};
+ghost use Rattle.event_ordering.specs.Theorems.{InOrder};
 ghost use Rattle.book.specs.Limits.{LimitsAreNumbers};
 
 use crate::book::Book;

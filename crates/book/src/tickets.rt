@@ -3,12 +3,12 @@ ghost use Rattle.std.specs.Prelude.{◌≡◌, ◌≤◌, ◌↔◌, None, Some,
 ghost use Rattle.std.specs.Option.{option_map};
 ghost use Rattle.heap.specs.Found.{Found};
 ghost use Rattle.post.specs.MessageView.{place_of, message_of};
-ghost use Rattle.worldcells.specs.View.{world_of};
+ghost use Rattle.world_cells.specs.View.{world_of};
 ghost use Rattle.post.specs.Messages.{at_vat};
-ghost use Rattle.worldcells.specs.World.{vat, vat_state};
+ghost use Rattle.world_cells.specs.World.{vat, vat_state};
 ghost use Rattle.event.specs.Events.{Turn};
 ghost use Rattle.event.specs.ReadyView.{IsWay};
-ghost use Rattle.deliveries.specs.Outcomes.{told_of};
+ghost use Rattle.turn_deliveries.specs.Outcomes.{told_of};
 ghost use Rattle.desk.specs.Desks.{is_out, without};
 ghost use Rattle.desk.specs.DeskView.{lent_of as desk_lent};
 ghost use Rattle.book.specs.Refusals.{checkout_refusal, budget_refusal, full, journal_full};
@@ -31,8 +31,8 @@ use std::alloc::{AllocError, Global};
 use turn::ticket::{Out, Ran, Task, Ticket};
 use undo::records::keys_of;
 use undo::undoing::Deed;
-use worldcells::event::{Action, Event};
-use worldcells::world::World;
+use world_cells::event::{Action, Event};
+use world_cells::world::World;
 
 fn check_budget(budget: u32) -> Result<(), BookFault>
     ensures ok { OnOk result (budget_refusal budget ≡ None) }

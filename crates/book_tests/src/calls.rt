@@ -1,7 +1,6 @@
 // Calls of a book that are not refused, and what is there behind them.
 
 use book::book::Book;
-use deliveries::outcome::Ended;
 use ereader::read;
 use ids::names::{EventName, MsgId};
 use ids::text::Text;
@@ -9,6 +8,7 @@ use journal::entry::Mark;
 use kernele::tree::Program;
 use post::program::{Question, Script};
 use std::process::Abort;
+use turn_deliveries::outcome::Ended;
 use values::value::Value;
 
 /// The budget of turns and tickets.

@@ -6,8 +6,8 @@ use std::process::Abort;
 use values::value::Value;
 use world::run::plain_run;
 use world::step::StepFault;
-use worldcells::event::{Action, Event};
-use worldcells::world::World;
+use world_cells::event::{Action, Event};
+use world_cells::world::World;
 
 const COUNTING: &str = "n := n + 1";
 

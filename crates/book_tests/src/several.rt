@@ -1,9 +1,9 @@
 // Messages between vats: they arrive, go on, have their turns, and vats learn what came of them.
 
 use crate::calls::{BUDGET, ask, birth_behind, expect_integer, message, name, turn};
-use agenda::agenda::Step;
 use book::book::Book;
 use book::fault::BookFault;
+use book_agenda::agenda::Step;
 use ids::names::{EventName, MsgId, PromId, VatNo};
 use std::process::Abort;
 

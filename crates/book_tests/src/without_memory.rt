@@ -15,8 +15,8 @@ use journal::entry::Mark;
 use std::process::Abort;
 use undo::records::{make_rooms, swap_records};
 use undo::undoing::{Core, Deed};
-use worldcells::event::{Action, Event};
-use worldcells::world::World;
+use world_cells::event::{Action, Event};
+use world_cells::world::World;
 
 /// What the birth of a vat with an empty script writes.
 fn effects(rt: &(impl Abort + AllocGlobal), event: u32, name: &Text) -> Effects {

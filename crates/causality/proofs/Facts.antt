@@ -6,7 +6,7 @@ use Rattle.history.specs.Chains.{HasCells, Chained}
 use Rattle.history.specs.Records.{Record}
 use Rattle.ids.specs.CellKeys.{same_key}
 use Rattle.ids.specs.declared.cells.CellKey.{CellKey}
-use Rattle.worldcells.specs.Theory.{cells}
+use Rattle.world_cells.specs.Theory.{cells}
 use Rattle.history.specs.Journal.{Entry, name_of, caused, live_set, Distinct, Ordered, Sound}
 use Rattle.journal.specs.Items.{Item, wrote_one_of}
 use Rattle.journal.specs.Lines.{plain, Line, line_of, lines_of, entries_in}

@@ -13,8 +13,8 @@ use Rattle.history.specs.Chains.{chain, last_of}
 use Rattle.history.proofs.Lists.{all_append, all_reversed}
 use Rattle.history.proofs.Standing.{chain_stands}
 use Rattle.ids.specs.declared.cells.CellKey.{CellKey}
-use Rattle.worldcells.specs.World.{World}
-use Rattle.worldcells.specs.Theory.{Rule, subject, cells}
+use Rattle.world_cells.specs.World.{World}
+use Rattle.world_cells.specs.Theory.{Rule, subject, cells}
 use Rattle.journal.specs.Items.{Item}
 use Rattle.journal.specs.Lines.{plain, reached, writer_of}
 use Rattle.journal.specs.Standing.{Told, told, row_told, ItemsStand}

@@ -16,10 +16,10 @@ use Rattle.history.specs.Journal.{Entry, name_of, is_in, caused, Distinct}
 use Rattle.history.proofs.Lists.{all_map, any_gives, any_none, any_same, all_of}
 use Rattle.ids.specs.declared.names.EventName.{EventName}
 use Rattle.ids.specs.declared.cells.CellKey.{CellKey}
-use Rattle.links.specs.Places.{place_of, ArePlaces}
-use Rattle.links.specs.Followers.{followers_of, may_follow, Follows}
-use Rattle.links.specs.declared.places.Places.{Places}
-use Rattle.links.specs.declared.followers.Followers.{Followers}
+use Rattle.journal_links.specs.Places.{place_of, ArePlaces}
+use Rattle.journal_links.specs.Followers.{followers_of, may_follow, Follows}
+use Rattle.journal_links.specs.declared.places.Places.{Places}
+use Rattle.journal_links.specs.declared.followers.Followers.{Followers}
 use Rattle.journal.specs.Items.{Item, item_of}
 use Rattle.journal.specs.Journals.{settled_item}
 use Rattle.journal.specs.SettledView.{items_in}

@@ -2,8 +2,8 @@
 use Rattle.std.proofs.Common.{◌≡◌, ◌∙◌, ℕ, zero, suc, ◌+◌, ◌≤◌, Bool, true, false, cond, ◌&&◌, List, [], ◌∷◌, Option, Some, None, is_some, map, slice_get, refl, sym, ap, ap₂, arith, true≢false}
 use Rattle.std.specs.Option.{option_and_then, option_or}
 use Rattle.ids.specs.declared.names.EventName.{EventName}
-use Rattle.links.specs.Places.{ArePlaces}
-use Rattle.links.specs.declared.places.Places.{Places}
+use Rattle.journal_links.specs.Places.{ArePlaces}
+use Rattle.journal_links.specs.declared.places.Places.{Places}
 use Rattle.journal.specs.Items.{Item}
 use Rattle.journal.specs.Links.{names_of}
 use Rattle.causality.specs.Placed.{least_place}

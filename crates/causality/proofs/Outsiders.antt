@@ -13,10 +13,10 @@ use Rattle.history.specs.Journal.{is_in}
 use Rattle.history.proofs.Lists.{all_map, all_both, all_of, any_gives, any_none}
 use Rattle.ids.specs.declared.names.EventName.{EventName}
 use Rattle.ids.specs.declared.cells.CellKey.{CellKey}
-use Rattle.links.specs.Places.{place_of, ArePlaces}
-use Rattle.links.specs.Followers.{followers_of, may_follow, Follows}
-use Rattle.links.specs.declared.places.Places.{Places}
-use Rattle.links.specs.declared.followers.Followers.{Followers}
+use Rattle.journal_links.specs.Places.{place_of, ArePlaces}
+use Rattle.journal_links.specs.Followers.{followers_of, may_follow, Follows}
+use Rattle.journal_links.specs.declared.places.Places.{Places}
+use Rattle.journal_links.specs.declared.followers.Followers.{Followers}
 use Rattle.journal.specs.Items.{Item, item_of}
 use Rattle.journal.specs.SettledView.{settled_item, items_in}
 use Rattle.journal.specs.Links.{AreFollowers, names_of, open_at}

@@ -6,8 +6,8 @@ use Rattle.std.specs.Option.{option_map_or, option_and_then, option_or}
 use Rattle.std.proofs.lemmas.Bool.{ltb-false, and_parts}
 use Rattle.std.proofs.lemmas.List.{length-map, length-append}
 use Rattle.ids.specs.declared.names.EventName.{EventName}
-use Rattle.links.specs.Places.{ArePlaces}
-use Rattle.links.specs.declared.places.Places.{Places}
+use Rattle.journal_links.specs.Places.{ArePlaces}
+use Rattle.journal_links.specs.declared.places.Places.{Places}
 use Rattle.journal.specs.Items.{Item, item_of}
 use Rattle.journal.specs.Journals.{settled_item}
 use Rattle.journal.specs.SettledView.{items_in}

@@ -19,8 +19,8 @@ use Rattle.history.proofs.Lists.{all_map}
 use Rattle.ids.specs.declared.names.EventName.{EventName}
 use Rattle.event.specs.Events.{DoesNoted}
 use Rattle.event.proofs.Law.{noted_laws}
-use Rattle.links.specs.Places.{place_of, ArePlaces}
-use Rattle.links.specs.declared.places.Places.{Places}
+use Rattle.journal_links.specs.Places.{place_of, ArePlaces}
+use Rattle.journal_links.specs.declared.places.Places.{Places}
 use Rattle.journal.specs.Items.{Item, item_of, is_live}
 use Rattle.journal.specs.Journals.{items_of, settled_item}
 use Rattle.journal.specs.Lines.{Line, line_of, lines_of}

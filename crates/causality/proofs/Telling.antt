@@ -10,8 +10,8 @@ use Rattle.history.specs.Journal.{Entry, name_of, caused, live_set, Distinct, Or
 use Rattle.history.specs.Records.{State, Row, Fits, entries_of}
 use Rattle.history.proofs.Lists.{all_map, all_both, all_mapped}
 use Rattle.ids.specs.declared.cells.CellKey.{CellKey}
-use Rattle.worldcells.specs.Theory.{cells}
-use Rattle.worldcells.specs.World.{empty}
+use Rattle.world_cells.specs.Theory.{cells}
+use Rattle.world_cells.specs.World.{empty}
 use Rattle.event.specs.Events.{DoesNoted, noted_events}
 use Rattle.event.proofs.Law.{noted_laws}
 use Rattle.journal.specs.Items.{Item}

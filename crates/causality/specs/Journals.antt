@@ -2,8 +2,8 @@
 use Rattle.std.specs.Prelude.{◌≡◌, ℕ, List, None, length}
 use Rattle.history.specs.Records.{State, Row}
 use Rattle.ids.specs.declared.names.EventName.{EventName}
-use Rattle.worldcells.specs.World.{empty}
-use Rattle.worldcells.specs.Theory.{cells}
+use Rattle.world_cells.specs.World.{empty}
+use Rattle.world_cells.specs.Theory.{cells}
 use Rattle.journal.specs.Items.{Item}
 use Rattle.journal.specs.Journals.{items_of}
 use Rattle.journal.specs.Lines.{lines_of}

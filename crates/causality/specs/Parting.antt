@@ -2,7 +2,7 @@
 use Rattle.std.specs.Prelude.{ℕ, Bool, false, not, ◌&&◌, List, Option, Some, nat_lt}
 use Rattle.std.specs.Option.{option_map, option_map_or, option_and_then}
 use Rattle.ids.specs.declared.names.EventName.{EventName}
-use Rattle.links.specs.declared.places.Places.{Places}
+use Rattle.journal_links.specs.declared.places.Places.{Places}
 use Rattle.journal.specs.Items.{Item, wrote_one_of}
 use Rattle.journal.specs.Links.{open_at}
 use Rattle.causality.specs.Placed.{least_place, name_there}

@@ -4,8 +4,8 @@ use Rattle.std.specs.Option.{option_map_or, option_and_then}
 use Rattle.std.specs.List.{fold, list_any}
 use Rattle.history.specs.Chains.{is_name}
 use Rattle.ids.specs.declared.names.EventName.{EventName}
-use Rattle.links.specs.Places.{place_of}
-use Rattle.links.specs.declared.places.Places.{Places}
+use Rattle.journal_links.specs.Places.{place_of}
+use Rattle.journal_links.specs.declared.places.Places.{Places}
 use Rattle.journal.specs.Items.{Item}
 use Rattle.journal.specs.Links.{names_of, open_at}
 use Rattle.journal.specs.declared.entry.Mark.{Mark}

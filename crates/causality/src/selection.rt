@@ -4,7 +4,7 @@ ghost use Rattle.std.specs.List.{list_any};
 ghost use Rattle.std.specs.List.Sorted.{IsStrictlySortedBy};
 ghost use Rattle.std.specs.Ordering.{nat_cmp};
 ghost use Rattle.history.specs.Chains.{is_name};
-ghost use Rattle.links.specs.Places.{place_of};
+ghost use Rattle.journal_links.specs.Places.{place_of};
 ghost use Rattle.journal.specs.Items.{item_of, is_live};
 ghost use Rattle.journal.specs.Journals.{items_of};
 ghost use Rattle.journal.specs.Lines.{lines_of};

@@ -8,10 +8,10 @@ use Rattle.ids.specs.declared.names.MsgId.{MsgId}
 use Rattle.std.specs.Option.{option_or}
 use Rattle.ids.specs.declared.names.VatNo.{VatNo}
 use Rattle.kernele.specs.Tree.{Name}
-use Rattle.erules.specs.Outbox.{Note}
-use Rattle.erules.specs.OutboxView.{note_of}
-use Rattle.worldcells.specs.Events.{Act, birth, ask, arrive, forward, learn, turn, Noted}
-use Rattle.worldcells.specs.World.{same_vat}
+use Rattle.eval_rules.specs.Outbox.{Note}
+use Rattle.eval_rules.specs.OutboxView.{note_of}
+use Rattle.world_cells.specs.Events.{Act, birth, ask, arrive, forward, learn, turn, Noted}
+use Rattle.world_cells.specs.World.{same_vat}
 use Rattle.journal.specs.Items.{Item, item_of}
 use Rattle.journal.specs.Journals.{settled_item}
 use Rattle.journal.specs.Lines.{Line, line_of}

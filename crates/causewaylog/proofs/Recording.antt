@@ -1,7 +1,7 @@
 -- The records of turns: one turn after another, and that no number in them is a float.
 use Rattle.std.proofs.Common.{◌≡◌, ℕ, ◌+◌, ◌≤◌, Bool, true, false, ◌||◌, List, [], ◌∷◌, ◌++◌, map, refl, ap, ap₂, ◌∙◌, append_assoc, arith}
 use Rattle.kernele.specs.Tree.{Name}
-use Rattle.erules.specs.Outbox.{Note, sent_note, waits_note, resolved_note, comment_note}
+use Rattle.eval_rules.specs.Outbox.{Note, sent_note, waits_note, resolved_note, comment_note}
 use Rattle.serde_json.specs.Data.{Data}
 use Rattle.serde_json.specs.View.{items_of}
 use Rattle.serde_json.specs.Written.{has_float, items_have_float, members_have_float}

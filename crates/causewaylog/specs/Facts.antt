@@ -3,7 +3,7 @@ use Rattle.std.specs.Prelude.{ℕ, List, ◌∷◌, ◌++◌, map, codes}
 use Rattle.ids.specs.Names.{message_text, promise_text}
 use Rattle.ids.specs.declared.names.MsgId.{MsgId}
 use Rattle.kernele.specs.Tree.{Name}
-use Rattle.erules.specs.Outbox.{Note, sent_note, waits_note, resolved_note, comment_note}
+use Rattle.eval_rules.specs.Outbox.{Note, sent_note, waits_note, resolved_note, comment_note}
 use Rattle.serde_json.specs.Data.{Data, number, unsigned, string, array, object, item, no_items, Members, member, no_members}
 use Rattle.causewaylog.specs.Turns.{Turn}
 

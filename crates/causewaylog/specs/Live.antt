@@ -3,7 +3,7 @@ use Rattle.std.specs.Prelude.{cond, List, [], ◌∷◌, Option, None}
 use Rattle.ids.specs.declared.names.VatNo.{VatNo}
 use Rattle.ids.specs.declared.names.MsgId.{MsgId}
 use Rattle.kernele.specs.Tree.{Name}
-use Rattle.worldcells.specs.Events.{Noted}
+use Rattle.world_cells.specs.Events.{Noted}
 use Rattle.journal.specs.Items.{Item}
 use Rattle.causewaylog.specs.Turns.{born_as, got_by}
 

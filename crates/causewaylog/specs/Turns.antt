@@ -6,9 +6,9 @@ use Rattle.ids.specs.declared.names.EventName.{EventName}
 use Rattle.ids.specs.declared.names.VatNo.{VatNo}
 use Rattle.ids.specs.declared.names.MsgId.{MsgId}
 use Rattle.kernele.specs.Tree.{Name}
-use Rattle.erules.specs.Outbox.{Note}
-use Rattle.worldcells.specs.Events.{Act, birth, turn, Noted}
-use Rattle.worldcells.specs.World.{same_vat}
+use Rattle.eval_rules.specs.Outbox.{Note}
+use Rattle.world_cells.specs.Events.{Act, birth, turn, Noted}
+use Rattle.world_cells.specs.World.{same_vat}
 use Rattle.journal.specs.Lines.{Line}
 use Rattle.causality.specs.Selections.{is_live}
 

@@ -1,12 +1,12 @@
 // The records of a log.
 ghost use Rattle.std.specs.Prelude.{◌≡◌, codes, IfOk};
 ghost use Rattle.ids.specs.Names.{message_text, promise_text};
-ghost use Rattle.erules.specs.OutboxView.{note_of};
+ghost use Rattle.eval_rules.specs.OutboxView.{note_of};
 ghost use Rattle.serde_json.specs.Data.{string, member, no_members};
 ghost use Rattle.serde_json.specs.View.{view};
 ghost use Rattle.causewaylog.specs.Facts.{anchor, class, got_fact, note_fact, record_at};
 
-use erules::outbox::Note;
+use eval_rules::outbox::Note;
 use ids::names::{MsgId, PromId};
 use serde_json::{Value, json};
 use std::alloc::{AllocError, Global};

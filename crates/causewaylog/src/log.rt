@@ -1,6 +1,6 @@
 // The log of a vat.
 ghost use Rattle.std.specs.Prelude.{◌≡◌, ◌++◌, map, Some, IfOk, OnOk, string_bytes};
-ghost use Rattle.erules.specs.OutboxView.{note_of};
+ghost use Rattle.eval_rules.specs.OutboxView.{note_of};
 ghost use Rattle.journal.specs.Items.{item_of};
 ghost use Rattle.journal.specs.Journals.{items_of, settled_item};
 ghost use Rattle.book.specs.Books.{settled_lines, open_lines};
@@ -14,7 +14,7 @@ ghost use Rattle.causewaylog.specs.Turns.{live_in, vat_called};
 use crate::facts::{anchor, of_got, of_note};
 use crate::turns::{got_by, settled_turns, vat_called};
 use book::book::Book;
-use erules::outbox::Note;
+use eval_rules::outbox::Note;
 use ids::names::{MsgId, VatNo};
 use journal::journal::Journal;
 use serde_json::Value;

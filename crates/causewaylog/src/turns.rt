@@ -1,6 +1,6 @@
 // Which entries are live turns of a vat.
 ghost use Rattle.std.specs.Prelude.{◌≡◌, ◌≤◌, map, length, is_some};
-ghost use Rattle.worldcells.specs.EventView.{act_of};
+ghost use Rattle.world_cells.specs.EventView.{act_of};
 ghost use Rattle.journal.specs.Items.{item_of};
 ghost use Rattle.journal.specs.Journals.{items_of, settled_item};
 ghost use Rattle.causewaylog.specs.Turns.{born_as as born, got_by as got, vat_called, turns_of};
@@ -10,7 +10,7 @@ use ids::names::{MsgId, VatNo};
 use journal::entry::{Entry, Mark};
 use journal::journal::Journal;
 use journal::settled::Settled;
-use worldcells::event::{Action, Event};
+use world_cells::event::{Action, Event};
 
 /// The vat that an event gives birth to, if that has this name.
 fn born_as(event: &Event, name: &str) -> Option<VatNo>

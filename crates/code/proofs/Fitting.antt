@@ -1,7 +1,7 @@
 -- Code that holds vectors fits where its parts and the vectors' code do.
 use Rattle.std.proofs.Common.{◌≡◌, List, [], ◌∷◌, ◌++◌, ℕ, Option, Bool, false, refl, ap, sym, ◌∙◌}
-use Rattle.scopes.specs.Scope.{name_of, names_of_all}
-use Rattle.scopes.specs.Free.{captures, when_captures}
+use Rattle.kernele_scopes.specs.Scope.{name_of, names_of_all}
+use Rattle.kernele_scopes.specs.Free.{captures, when_captures}
 use Rattle.kernele.specs.Tree.{none}
 use Rattle.kernele.specs.declared.tree.Pattern.{Pattern}
 use Rattle.kernele.specs.declared.tree.Pattern.TheVariants as pattern

@@ -3,7 +3,7 @@ use Rattle.std.proofs.Common.{◌≡◌, ℕ, ◌+◌, arith, Bool, true, false,
 use Rattle.std.proofs.lemmas.Slice.Eq.{bytes_eq-Decides}
 use Rattle.std.specs.Str.{bytes_eq}
 use Rattle.kernele.specs.Tree.{Name}
-use Rattle.scopes.specs.Free.{is_among}
+use Rattle.kernele_scopes.specs.Free.{is_among}
 use Rattle.code.specs.Frames.{Frame, newest, or_oldest, place_at, place_in}
 use Rattle.code.specs.Newest.{IsNewest}
 use Rattle.code.specs.declared.code.Place.TheVariants as place

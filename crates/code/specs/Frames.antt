@@ -3,9 +3,9 @@ use Rattle.std.specs.Prelude.{◌≡◌, ℕ, ◌+◌, Bool, true, false, Option
 use Rattle.std.specs.Str.{bytes_eq}
 use Rattle.kernele.specs.Tree.{Name, Tree, Trees, none}
 use Rattle.kernele.specs.declared.tree.Pattern.TheVariants as binding
-use Rattle.scopes.specs.Scope.{name_of, names_of_all, own_names, own_names_in}
-use Rattle.scopes.specs.Free.{captures, when_captures}
-use Rattle.scopes.specs.declared.naming.TopName.{TopName}
+use Rattle.kernele_scopes.specs.Scope.{name_of, names_of_all, own_names, own_names_in}
+use Rattle.kernele_scopes.specs.Free.{captures, when_captures}
+use Rattle.kernele_scopes.specs.declared.naming.TopName.{TopName}
 use Rattle.code.specs.declared.code.Place.{Place}
 use Rattle.code.specs.declared.code.Place.TheVariants as place
 use Rattle.code.specs.declared.code.Capture.{Capture}

@@ -1,7 +1,7 @@
 -- What a place says of a name.
 use Rattle.std.specs.Prelude.{◌≡◌, ℕ, List, ◌∷◌, ◌++◌, length, false}
 use Rattle.kernele.specs.Tree.{Name}
-use Rattle.scopes.specs.Free.{is_among}
+use Rattle.kernele_scopes.specs.Free.{is_among}
 use Rattle.code.specs.declared.code.Place.TheVariants as place
 use Rattle.code.specs.Frames.{Frame, place_in}
 

@@ -4,8 +4,8 @@ use Rattle.std.proofs.Common.{refl}
 use Rattle.std.proofs.Props.{props}
 use Rattle.kernele.specs.Tree.{Methods, none}
 use Rattle.kernele.specs.declared.tree.Pattern.TheVariants as binding
-use Rattle.scopes.specs.Scope.{name_of, names_of_all}
-use Rattle.scopes.specs.Free.{captures, when_captures}
+use Rattle.kernele_scopes.specs.Scope.{name_of, names_of_all}
+use Rattle.kernele_scopes.specs.Free.{captures, when_captures}
 use Rattle.code.specs.declared.code.Place.{Place}
 use Rattle.code.specs.declared.code.Capture.{Capture}
 use Rattle.code.specs.declared.code.Code as code

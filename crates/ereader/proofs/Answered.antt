@@ -11,11 +11,11 @@ use Rattle.kernele.specs.View.{program_of}
 use Rattle.ereader.specs.declared.fault.ReadFault.{ReadFault}
 use Rattle.ereader.specs.declared.fault.ReadFault.TheVariants as fault
 use Rattle.ereader.specs.Brackets.{IsTooDeep}
-use Rattle.egrammar.specs.Grammar.{Program}
+use Rattle.ereader_grammar.specs.Grammar.{Program}
 use Rattle.ereader.specs.Texts.{refusal_of, ReadAs, read_fault, read_deep, read_unexpected, read_program, Answers}
-use Rattle.egrammar.proofs.Complete.{one_program}
+use Rattle.ereader_grammar.proofs.Complete.{one_program}
 use Rattle.etoken.proofs.Answered.{one_answer}
-use Rattle.egrammar.specs.View.{plain}
+use Rattle.ereader_grammar.specs.View.{plain}
 use Rattle.ereader.specs.View.{Accepts, IsRefusal}
 
 ok_not : {p : code.Program} {f : ReadFault} → ◌≡◌ {A = Result code.Program ReadFault} (Ok p) (Err f) → ⊥

@@ -7,16 +7,16 @@ use Rattle.etoken.specs.Tokens.{Tokens, tokens_all}
 use Rattle.kernele.specs.Tree.{Trees}
 use Rattle.kernele.specs.Spelling.{spelling}
 use Rattle.ereader.specs.Brackets.{IsTooDeep}
-use Rattle.egrammar.specs.Grammar.{Program}
-use Rattle.egrammar.specs.Spelled.{CutInto, cut_into, SpelledBy, AreSpellable}
+use Rattle.ereader_grammar.specs.Grammar.{Program}
+use Rattle.ereader_grammar.specs.Spelled.{CutInto, cut_into, SpelledBy, AreSpellable}
 use Rattle.ereader.specs.Laws.{IsWithinLimits}
 use Rattle.ereader.specs.Texts.{ReadAs, read_program}
-use Rattle.egrammar.specs.View.{plain}
-use Rattle.egrammar.specs.Written.{program_tokens}
-use Rattle.eparser.proofs.Views.{length-plain}
-use Rattle.egrammar.proofs.Spelled.{spelled}
-use Rattle.egrammar.proofs.Retold.{cuts_itself}
-use Rattle.egrammar.proofs.Spellable.{spellable}
+use Rattle.ereader_grammar.specs.View.{plain}
+use Rattle.ereader_grammar.specs.Written.{program_tokens}
+use Rattle.ereader_parser.proofs.Views.{length-plain}
+use Rattle.ereader_grammar.proofs.Spelled.{spelled}
+use Rattle.ereader_grammar.proofs.Retold.{cuts_itself}
+use Rattle.ereader_grammar.proofs.Spellable.{spellable}
 
 -- the tokens of a text, without their places
 tokens_cut : {text : List ℕ} {tokens : List Placed} → Tokens text (Ok tokens) → CutInto text (plain tokens)

@@ -3,7 +3,7 @@ use Rattle.std.proofs.Common.{◌≡◌, ℕ, suc, ◌<◌, ◌≤◌, List, [],
 use Rattle.etoken.specs.declared.token.Token.{Token}
 use Rattle.etoken.specs.declared.token.Placed.{Placed}
 use Rattle.ereader.specs.Brackets.{open_after, most_open_from}
-use Rattle.egrammar.specs.View.{plain}
+use Rattle.ereader_grammar.specs.View.{plain}
 
 -- those that are open at first count too
 most_open-le : (n : ℕ) (ts : List Token) → n ≤ most_open_from n ts

@@ -10,12 +10,12 @@ use Rattle.kernele.specs.Tree.{Trees}
 use Rattle.kernele.specs.View.{trees_of}
 use Rattle.ereader.specs.declared.fault.ReadFault.{ReadFault}
 use Rattle.ereader.specs.declared.fault.ReadFault.TheVariants as fault
-use Rattle.egrammar.specs.Grammar.{Program}
-use Rattle.egrammar.specs.Reading.{program_at}
+use Rattle.ereader_grammar.specs.Grammar.{Program}
+use Rattle.ereader_grammar.specs.Reading.{program_at}
 use Rattle.ereader.specs.View.{Stops, Accepts}
-use Rattle.egrammar.proofs.Turns.{some_same, none_some}
-use Rattle.egrammar.proofs.Complete.{complete}
-use Rattle.egrammar.proofs.Sound.{sound}
+use Rattle.ereader_grammar.proofs.Turns.{some_same, none_some}
+use Rattle.ereader_grammar.proofs.Complete.{complete}
+use Rattle.ereader_grammar.proofs.Sound.{sound}
 
 pub found : (a : List Token) (block : Arc (Vec Expr Global) Global) (items : Vec Expr Global) → block.value ≡ items → program_at a ≡ Some (trees_of items.items, []) → Program a (trees_of block.value.items)
 found a block items e p = subst (λ (xs : Vec Expr Global). Program a (trees_of xs.items)) (sym e) (sound a (trees_of items.items) p)

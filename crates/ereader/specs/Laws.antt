@@ -3,9 +3,9 @@ use Rattle.std.specs.Prelude.{ℕ, ◌≡◌, ◌≤◌, List, length, Result, O
 use Rattle.etoken.specs.declared.token.Token.{Token}
 use Rattle.kernele.specs.Tree.{Trees}
 use Rattle.kernele.specs.Spelling.{spelling}
-use Rattle.egrammar.specs.Grammar.{Program}
-use Rattle.egrammar.specs.Spelled.{CutInto, SpelledBy, AreSpellable}
-use Rattle.egrammar.specs.Written.{program_tokens}
+use Rattle.ereader_grammar.specs.Grammar.{Program}
+use Rattle.ereader_grammar.specs.Spelled.{CutInto, SpelledBy, AreSpellable}
+use Rattle.ereader_grammar.specs.Written.{program_tokens}
 use Rattle.ereader.specs.Brackets.{IsTooDeep}
 use Rattle.ereader.specs.declared.fault.ReadFault.{ReadFault}
 use Rattle.ereader.specs.Texts.{ReadAs}

@@ -10,8 +10,8 @@ use Rattle.kernele.specs.View.{program_of}
 use Rattle.ereader.specs.declared.fault.ReadFault.{ReadFault}
 use Rattle.ereader.specs.declared.fault.ReadFault.TheVariants as fault
 use Rattle.ereader.specs.Brackets.{IsTooDeep}
-use Rattle.egrammar.specs.Grammar.{Program}
-use Rattle.egrammar.specs.View.{plain}
+use Rattle.ereader_grammar.specs.Grammar.{Program}
+use Rattle.ereader_grammar.specs.View.{plain}
 use Rattle.ereader.specs.View.{IsPlace}
 
 -- a text that has no tokens is refused for the same

@@ -4,8 +4,8 @@ use Rattle.std.specs.declared.vec.Vec.{Vec}
 use Rattle.std.specs.declared.alloc.Global.{Global}
 use Rattle.etoken.specs.declared.token.Token.{Token}
 use Rattle.kernele.specs.declared.tree.Expr.{Expr}
-use Rattle.esigns.specs.declared.stop.Stop.{Stop}
-use Rattle.eparser.specs.View.{Fails}
+use Rattle.ereader_signs.specs.declared.stop.Stop.{Stop}
+use Rattle.ereader_parser.specs.View.{Fails}
 use Rattle.etoken.specs.declared.token.Placed.{Placed}
 use Rattle.kernele.specs.declared.tree.Program.{Program}
 use Rattle.kernele.specs.Tree.{Trees}

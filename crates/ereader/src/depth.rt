@@ -1,7 +1,7 @@
 // How many brackets are open.
 ghost use Rattle.std.specs.Prelude.{◌≡◌, ◌<◌, ◌↔◌, ◌^◌, IsTrue};
 ghost use Rattle.ereader.specs.Brackets.{open_after, IsTooDeep};
-ghost use Rattle.egrammar.specs.View.{plain};
+ghost use Rattle.ereader_grammar.specs.View.{plain};
 
 use etoken::token::{Placed, Sign, Token};
 

@@ -5,11 +5,11 @@ ghost use Rattle.std.specs.Prelude.{◌≡◌, ◌↔◌, [], IfOk, IfErr, Some}
 ghost use Rattle.kernele.specs.Tree.{Trees};
 ghost use Rattle.kernele.specs.View.{trees_of, program_of};
 ghost use Rattle.ereader.specs.Brackets.{IsTooDeep};
-ghost use Rattle.egrammar.specs.Grammar as grammar;
-ghost use Rattle.egrammar.specs.Reading.{program_at, all_at, within_at};
-ghost use Rattle.eparser.specs.View.{left_of};
+ghost use Rattle.ereader_grammar.specs.Grammar as grammar;
+ghost use Rattle.ereader_grammar.specs.Reading.{program_at, all_at, within_at};
+ghost use Rattle.ereader_parser.specs.View.{left_of};
 ghost use Rattle.ereader.specs.Texts.{Answers};
-ghost use Rattle.egrammar.specs.View.{plain};
+ghost use Rattle.ereader_grammar.specs.View.{plain};
 ghost use Rattle.ereader.specs.View.{GivesAll, IsPlace, Stops, Accepts, IsRefusal};
 
 mod depth;
@@ -17,8 +17,8 @@ pub mod fault;
 pub mod theorems;
 
 use crate::fault::ReadFault;
-use eparser::Reader;
-use esigns::stop::Stop;
+use ereader_parser::Reader;
+use ereader_signs::stop::Stop;
 use etoken::token::Placed;
 use etoken::tokens::tokens;
 use kernele::tree::{Block, Expr, Program};

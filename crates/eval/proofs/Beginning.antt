@@ -4,13 +4,13 @@ use Rattle.kernele.specs.Tree.{Tree}
 use Rattle.code.specs.View.{trees_of_codes}
 use Rattle.code.specs.declared.code.Code.{Code}
 use Rattle.values.specs.Data.{null}
-use Rattle.erules.specs.At.{At}
-use Rattle.erules.specs.Answered.{OnStop}
-use Rattle.erules.specs.Outcomes.{Halt, value, halt, abandoned, budget_spent, too_deep}
-use Rattle.erules.specs.Rules.{begun, Ends, at_budget, at_depth, Block, in_block, items_none}
-use Rattle.erules.specs.declared.end.Stop.{Stop}
-use Rattle.erules.specs.declared.end.Stop.TheVariants as stop
-use Rattle.erules.specs.declared.working.Working.{Working}
+use Rattle.eval_rules.specs.At.{At}
+use Rattle.eval_rules.specs.Answered.{OnStop}
+use Rattle.eval_rules.specs.Outcomes.{Halt, value, halt, abandoned, budget_spent, too_deep}
+use Rattle.eval_rules.specs.Rules.{begun, Ends, at_budget, at_depth, Block, in_block, items_none}
+use Rattle.eval_rules.specs.declared.end.Stop.{Stop}
+use Rattle.eval_rules.specs.declared.end.Stop.TheVariants as stop
+use Rattle.eval_rules.specs.declared.working.Working.{Working}
 
 ends_as : {k : ℕ} {t : Tree} {a b c : At} {h g : Halt} → h ≡ g → b ≡ c → Ends k t a (halt g) c → Ends k t a (halt h) b
 ends_as {k = k} {t = t} {a = a} {b = b} {g = g} e f r = subst (λ h. Ends k t a (halt h) b) (sym e) (subst (λ b. Ends k t a (halt g) b) (sym f) r)

@@ -5,15 +5,15 @@ use Rattle.kernele.specs.Tree.{Tree}
 use Rattle.code.specs.View.{tree_of_code}
 use Rattle.code.specs.declared.code.Code.{Code}
 use Rattle.values.specs.Data.{Val, bool}
-use Rattle.emessages.proofs.Behind.{own_behind, own_given}
-use Rattle.erules.specs.At.{At}
-use Rattle.erules.specs.Answered.{OnAnswer}
-use Rattle.erules.specs.Outcomes.{End, value, halt}
-use Rattle.erules.specs.Rules.{Ends, Needs, choice_of, goes, ends}
-use Rattle.erules.proofs.Steps.{end_taken}
-use Rattle.erules.specs.declared.end.Stop.{Stop}
-use Rattle.erules.specs.declared.end.Stop.TheVariants as stop
-use Rattle.erules.specs.declared.working.Working.{Working}
+use Rattle.eval_messages.proofs.Behind.{own_behind, own_given}
+use Rattle.eval_rules.specs.At.{At}
+use Rattle.eval_rules.specs.Answered.{OnAnswer}
+use Rattle.eval_rules.specs.Outcomes.{End, value, halt}
+use Rattle.eval_rules.specs.Rules.{Ends, Needs, choice_of, goes, ends}
+use Rattle.eval_rules.proofs.Steps.{end_taken}
+use Rattle.eval_rules.specs.declared.end.Stop.{Stop}
+use Rattle.eval_rules.specs.declared.end.Stop.TheVariants as stop
+use Rattle.eval_rules.specs.declared.working.Working.{Working}
 use Rattle.eval.specs.Choosing.{Chooses}
 
 pub chosen : (r : Result Bool Stop) (w : Working) {k : ℕ} {t : Tree} {a c : At} {v : Val} → Needs k t a (value v) c → OnAnswer r w (λ q b. (choice_of (value v) ≡ goes q) × (b ≡ c)) (λ h b. (choice_of (value v) ≡ ends (halt h)) × (b ≡ c)) → Chooses r w k t a

@@ -10,27 +10,27 @@ use Rattle.kernele.specs.declared.tree.Pattern.{Pattern}
 use Rattle.kernele.specs.declared.tree.Pattern.TheVariants as pattern
 use Rattle.values.specs.Data.{Val, null, ejector}
 use Rattle.heap.specs.State.{Nouns}
-use Rattle.erules.specs.At.{At}
+use Rattle.eval_rules.specs.At.{At}
 use Rattle.values.specs.View.{val_of}
 use Rattle.values.specs.declared.value.Value.{Value}
-use Rattle.erules.specs.Doings.{behind, given_by, resolver_end, resolver_out}
-use Rattle.erules.specs.Outcomes.{End, Halt, value, halt, Gather, halted}
-use Rattle.erules.specs.Rules.{Target, inside, leaving, gives, enters, target_of, called, next_ejector, escaping, escape_end, Ends, Runs, run_call_gives, run_call_enters, run_call_uses, run_escape, Args, Items, Taking}
+use Rattle.eval_rules.specs.Doings.{behind, given_by, resolver_end, resolver_out}
+use Rattle.eval_rules.specs.Outcomes.{End, Halt, value, halt, Gather, halted}
+use Rattle.eval_rules.specs.Rules.{Target, inside, leaving, gives, enters, target_of, called, next_ejector, escaping, escape_end, Ends, Runs, run_call_gives, run_call_enters, run_call_uses, run_escape, Args, Items, Taking}
 use Rattle.heap.specs.declared.state.Noun.{Noun}
-use Rattle.erules.specs.Locals.{captured_in, names_in}
-use Rattle.erules.specs.View.{at, opened_of}
-use Rattle.erules.specs.declared.local.Local.{Local}
-use Rattle.erules.specs.declared.end.Stop.{Stop}
-use Rattle.erules.specs.declared.end.Stop.TheVariants as stop
-use Rattle.erules.specs.declared.entry.Entry.{Entry}
-use Rattle.erules.specs.declared.working.Working.{Working}
-use Rattle.eobjects.specs.View.{Comes, gave, used, Led, OnEntry, OnTarget, entry_target}
-use Rattle.erules.proofs.Opened.{taking_opened}
-use Rattle.erules.proofs.Doings.{called_works}
-use Rattle.erules.proofs.Steps.{runs_to, args_as}
-use Rattle.erules.proofs.Ejectors.{opened_truncated}
-use Rattle.eobjects.specs.Direct.{EnteredOrNot, IsEntered}
-use Rattle.eobjects.specs.declared.direct.Entered.{Entered}
+use Rattle.eval_rules.specs.Locals.{captured_in, names_in}
+use Rattle.eval_rules.specs.View.{at, opened_of}
+use Rattle.eval_rules.specs.declared.local.Local.{Local}
+use Rattle.eval_rules.specs.declared.end.Stop.{Stop}
+use Rattle.eval_rules.specs.declared.end.Stop.TheVariants as stop
+use Rattle.eval_rules.specs.declared.entry.Entry.{Entry}
+use Rattle.eval_rules.specs.declared.working.Working.{Working}
+use Rattle.eval_objects.specs.View.{Comes, gave, used, Led, OnEntry, OnTarget, entry_target}
+use Rattle.eval_rules.proofs.Opened.{taking_opened}
+use Rattle.eval_rules.proofs.Doings.{called_works}
+use Rattle.eval_rules.proofs.Steps.{runs_to, args_as}
+use Rattle.eval_rules.proofs.Ejectors.{opened_truncated}
+use Rattle.eval_objects.specs.Direct.{EnteredOrNot, IsEntered}
+use Rattle.eval_objects.specs.declared.direct.Entered.{Entered}
 use Rattle.eval.specs.Leading.{Leads}
 
 -- what a method's block does, where the caller's names come back behind it

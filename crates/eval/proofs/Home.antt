@@ -2,20 +2,20 @@
 use Rattle.std.proofs.Common.{◌≡◌, ℕ, List, [], ◌∷◌, Bool, true, false, Option, Some, None, refl, ap, ◌∙◌}
 use Rattle.ids.specs.declared.names.SlotId.{SlotId}
 use Rattle.kernele.specs.Tree.{Name, Tree, Trees, Methods}
-use Rattle.scopes.specs.Free.{captures}
+use Rattle.kernele_scopes.specs.Free.{captures}
 use Rattle.kernele.specs.declared.tree.Pattern.{Pattern}
 use Rattle.kernele.specs.declared.tree.Pattern.TheVariants as pattern
 use Rattle.values.specs.Data.{Val, object, Vals, no_vals, and_val}
 use Rattle.heap.specs.State.{Bind, fixed, slot, Plain}
-use Rattle.erules.specs.At.{At}
-use Rattle.erules.specs.Outcomes.{End, value, halt, Gather}
-use Rattle.erules.specs.Rules.{seeking, slot_put, capturing}
-use Rattle.erules.proofs.Seeking.{seeking_reads, noun_reads, captures_read}
-use Rattle.erules.specs.Rules.{sought_slot, bound_in, matched, matched_all, defined, Listing, listed, unlisted, parts_of, parts_bound, next_slot, has_room, slot_made, variable_made, declared, assigned}
-use Rattle.erules.specs.Rules.{Capture, captured, missing, capture_of, object_made, placed, with_object}
-use Rattle.erules.specs.Rules.{entering, Ends, at_budget, at_depth, at_node, Runs, run_null, run_bool, run_int, run_text, run_noun, run_define, run_variable, run_assign, run_call_receiver, run_call_gives, run_call_enters, run_call_uses, run_send_receiver, run_send, run_list, run_same_left, run_same, run_define_list, run_hide, run_throw, run_if_goes, run_if_ends, run_while_again, run_while_halts, run_while_done, run_while_ends, run_for, run_for_ends, run_try, run_try_caught, run_object, run_escape, run_when, run_when_catch, run_new_promise, run_break_ref, run_state_ref, Needs, needs, Args, args_none, args_next, args_halt, Items, items_none, items_next, items_halt, Block, in_block, Taking, in_taking, Each, each_none, each_next, each_halt}
-use Rattle.erules.specs.Doings.{next_object, has_object_room, datum_of, datum_read}
-use Rattle.erules.proofs.Doings.{datum_works, called_works, sent_works, when_works, pair_works, used_works, same_works}
+use Rattle.eval_rules.specs.At.{At}
+use Rattle.eval_rules.specs.Outcomes.{End, value, halt, Gather}
+use Rattle.eval_rules.specs.Rules.{seeking, slot_put, capturing}
+use Rattle.eval_rules.proofs.Seeking.{seeking_reads, noun_reads, captures_read}
+use Rattle.eval_rules.specs.Rules.{sought_slot, bound_in, matched, matched_all, defined, Listing, listed, unlisted, parts_of, parts_bound, next_slot, has_room, slot_made, variable_made, declared, assigned}
+use Rattle.eval_rules.specs.Rules.{Capture, captured, missing, capture_of, object_made, placed, with_object}
+use Rattle.eval_rules.specs.Rules.{entering, Ends, at_budget, at_depth, at_node, Runs, run_null, run_bool, run_int, run_text, run_noun, run_define, run_variable, run_assign, run_call_receiver, run_call_gives, run_call_enters, run_call_uses, run_send_receiver, run_send, run_list, run_same_left, run_same, run_define_list, run_hide, run_throw, run_if_goes, run_if_ends, run_while_again, run_while_halts, run_while_done, run_while_ends, run_for, run_for_ends, run_try, run_try_caught, run_object, run_escape, run_when, run_when_catch, run_new_promise, run_break_ref, run_state_ref, Needs, needs, Args, args_none, args_next, args_halt, Items, items_none, items_next, items_halt, Block, in_block, Taking, in_taking, Each, each_none, each_next, each_halt}
+use Rattle.eval_rules.specs.Doings.{next_object, has_object_room, datum_of, datum_read}
+use Rattle.eval_rules.proofs.Doings.{datum_works, called_works, sent_works, when_works, pair_works, used_works, same_works}
 
 bound_home : (own : Bool) (x : Name) (b : Bind) (a : At) → (bound_in own x b a).vat ≡ a.vat
 bound_home true x b a = refl

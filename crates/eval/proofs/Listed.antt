@@ -7,13 +7,13 @@ use Rattle.values.specs.Data.{Val, broken, Vals}
 use Rattle.values.specs.Replies.{items_in}
 use Rattle.values.specs.View.{val_of}
 use Rattle.values.specs.declared.value.Value.{Value}
-use Rattle.erules.specs.At.{At}
-use Rattle.erules.specs.Answered.{OnEnd}
-use Rattle.erules.specs.Outcomes.{Halt, thrown, value, halt}
-use Rattle.erules.specs.Rules.{mismatch, listing_by, taken, parts_of, parts_bound, parts_end}
-use Rattle.erules.specs.declared.end.Stop.{Stop}
-use Rattle.erules.specs.declared.end.Stop.TheVariants as stop
-use Rattle.erules.specs.declared.working.Working.{Working}
+use Rattle.eval_rules.specs.At.{At}
+use Rattle.eval_rules.specs.Answered.{OnEnd}
+use Rattle.eval_rules.specs.Outcomes.{Halt, thrown, value, halt}
+use Rattle.eval_rules.specs.Rules.{mismatch, listing_by, taken, parts_of, parts_bound, parts_end}
+use Rattle.eval_rules.specs.declared.end.Stop.{Stop}
+use Rattle.eval_rules.specs.declared.end.Stop.TheVariants as stop
+use Rattle.eval_rules.specs.declared.working.Working.{Working}
 
 -- what is not as it is wanted throws
 mismatch_throws : (words : Name) (v : Val) → (problem : Name) × (mismatch words v ≡ halt (thrown problem))

@@ -11,13 +11,13 @@ use Rattle.code.specs.declared.code.Capture.{Capture}
 use Rattle.code.specs.declared.code.Code.{Code}
 use Rattle.post.specs.Delivery.{Handler}
 use Rattle.heap.specs.State.{frame_of}
-use Rattle.erules.specs.At.{At}
-use Rattle.erules.specs.Fits.{frame_at}
-use Rattle.erules.specs.Outcomes.{value}
-use Rattle.erules.specs.Rules.{Ends}
-use Rattle.erules.specs.View.{at}
-use Rattle.erules.specs.declared.working.Working.{Working}
-use Rattle.erules.proofs.Added.{ends_add}
+use Rattle.eval_rules.specs.At.{At}
+use Rattle.eval_rules.specs.Fits.{frame_at}
+use Rattle.eval_rules.specs.Outcomes.{value}
+use Rattle.eval_rules.specs.Rules.{Ends}
+use Rattle.eval_rules.specs.View.{at}
+use Rattle.eval_rules.specs.declared.working.Working.{Working}
+use Rattle.eval_rules.proofs.Added.{ends_add}
 
 -- there is a promise left where each that was made since was paid for
 pub still_promised : (w u : Working) {n : ℕ} → (at u).out.promises + (at u).left ≤ (at w).out.promises + (at w).left → w.out.promises + w.steps < n → u.out.promises + u.steps < n

@@ -5,14 +5,14 @@ use Rattle.kernele.specs.Tree.{Tree}
 use Rattle.code.specs.View.{tree_of_code, trees_of_codes}
 use Rattle.code.specs.declared.code.Code.{Code}
 use Rattle.values.specs.Data.{Val}
-use Rattle.erules.specs.At.{At}
-use Rattle.erules.specs.Outcomes.{End, Halt, value, halt, ejected}
-use Rattle.erules.specs.Rules.{same_ejector, is_open, ejects, escape_end, next_ejector, escaping, Ends, Items}
-use Rattle.erules.proofs.Opened.{ends_opened}
-use Rattle.erules.proofs.Steps.{items_no_more, only_one}
+use Rattle.eval_rules.specs.At.{At}
+use Rattle.eval_rules.specs.Outcomes.{End, Halt, value, halt, ejected}
+use Rattle.eval_rules.specs.Rules.{same_ejector, is_open, ejects, escape_end, next_ejector, escaping, Ends, Items}
+use Rattle.eval_rules.proofs.Opened.{ends_opened}
+use Rattle.eval_rules.proofs.Steps.{items_no_more, only_one}
 use Rattle.std.specs.declared.vec.Vec.{Vec}
 use Rattle.std.specs.declared.alloc.Global.{Global}
-use Rattle.eobjects.specs.Leaves.{Returns, sent}
+use Rattle.eval_objects.specs.Leaves.{Returns, sent}
 use Rattle.eval.specs.Escaping.{IsNewest, Escapes}
 
 -- the innermost Escape stays while a tree is evaluated

@@ -10,13 +10,13 @@ use Rattle.code.specs.declared.code.Place.{Place}
 use Rattle.code.specs.declared.code.Code as code
 use Rattle.code.specs.declared.code.Code.{Code}
 use Rattle.values.specs.Data.{Val}
-use Rattle.erules.specs.At.{At}
-use Rattle.erules.specs.Fits.{fits_at}
-use Rattle.erules.specs.Doings.{datum_of, datum_read, state_end}
-use Rattle.erules.specs.Outcomes.{End, Halt, value, halt}
-use Rattle.erules.specs.Rules.{Ends, Runs, run_define, run_variable, run_assign, run_define_list, run_throw, run_break_ref, run_state_ref, needs}
-use Rattle.erules.proofs.Fitting.{placed_then}
-use Rattle.erules.proofs.Steps.{runs_as}
+use Rattle.eval_rules.specs.At.{At}
+use Rattle.eval_rules.specs.Fits.{fits_at}
+use Rattle.eval_rules.specs.Doings.{datum_of, datum_read, state_end}
+use Rattle.eval_rules.specs.Outcomes.{End, Halt, value, halt}
+use Rattle.eval_rules.specs.Rules.{Ends, Runs, run_define, run_variable, run_assign, run_define_list, run_throw, run_break_ref, run_state_ref, needs}
+use Rattle.eval_rules.proofs.Fitting.{placed_then}
+use Rattle.eval_rules.proofs.Steps.{runs_as}
 use Rattle.eval.proofs.Home.{ends_home}
 use Rattle.eval.specs.Sides.{right_side, taken_end, taken_at, is_placed}
 

@@ -8,16 +8,16 @@ use Rattle.code.specs.declared.code.Code.{Code}
 use Rattle.values.specs.Data.{Val, null}
 use Rattle.values.specs.View.{val_of}
 use Rattle.values.specs.declared.value.Value.{Value}
-use Rattle.erules.specs.At.{At}
-use Rattle.erules.specs.Answered.{OnEnd}
-use Rattle.erules.specs.Outcomes.{End, Halt, value, halt}
-use Rattle.erules.specs.Rules.{Items, items_none, items_next, items_halt}
-use Rattle.erules.specs.View.{at, halt_of}
-use Rattle.erules.specs.declared.end.Stop.{Stop}
-use Rattle.erules.specs.declared.end.Stop.TheVariants as stop
-use Rattle.erules.specs.declared.working.Working.{Working}
-use Rattle.erules.proofs.Steps.{items_end}
-use Rattle.eobjects.specs.Leaves.{GoesOn}
+use Rattle.eval_rules.specs.At.{At}
+use Rattle.eval_rules.specs.Answered.{OnEnd}
+use Rattle.eval_rules.specs.Outcomes.{End, Halt, value, halt}
+use Rattle.eval_rules.specs.Rules.{Items, items_none, items_next, items_halt}
+use Rattle.eval_rules.specs.View.{at, halt_of}
+use Rattle.eval_rules.specs.declared.end.Stop.{Stop}
+use Rattle.eval_rules.specs.declared.end.Stop.TheVariants as stop
+use Rattle.eval_rules.specs.declared.working.Working.{Working}
+use Rattle.eval_rules.proofs.Steps.{items_end}
+use Rattle.eval_objects.specs.Leaves.{GoesOn}
 use Rattle.eval.specs.Unwanted.{OnSomeEnd}
 
 -- after other values items end alike

@@ -1,12 +1,12 @@
 -- What a condition leads to.
 use Rattle.std.specs.Prelude.{◌≡◌, ℕ, Bool, Result}
 use Rattle.kernele.specs.Tree.{Tree}
-use Rattle.erules.specs.At.{At}
-use Rattle.erules.specs.Outcomes.{End, halt}
-use Rattle.erules.specs.Rules.{Needs, choice_of, goes, ends}
-use Rattle.erules.specs.Answered.{OnAnswer}
-use Rattle.erules.specs.declared.end.Stop.{Stop}
-use Rattle.erules.specs.declared.working.Working.{Working}
+use Rattle.eval_rules.specs.At.{At}
+use Rattle.eval_rules.specs.Outcomes.{End, halt}
+use Rattle.eval_rules.specs.Rules.{Needs, choice_of, goes, ends}
+use Rattle.eval_rules.specs.Answered.{OnAnswer}
+use Rattle.eval_rules.specs.declared.end.Stop.{Stop}
+use Rattle.eval_rules.specs.declared.working.Working.{Working}
 
 -- at level k, from this place, the condition was evaluated, and the answer is what its end leads to
 abbrev pub Chooses : Result Bool Stop → Working → ℕ → Tree → At → Type 0

@@ -1,9 +1,9 @@
 -- How an Escape ends.
 use Rattle.std.specs.Prelude.{◌≡◌, List, ◌∷◌}
 use Rattle.ids.specs.declared.names.EjId.{EjId}
-use Rattle.erules.specs.At.{At}
-use Rattle.erules.specs.Outcomes.{End}
-use Rattle.erules.specs.Rules.{escape_end}
+use Rattle.eval_rules.specs.At.{At}
+use Rattle.eval_rules.specs.Outcomes.{End}
+use Rattle.eval_rules.specs.Rules.{escape_end}
 
 -- the innermost Escape that is being evaluated is that of this ejector
 abbrev pub IsNewest : EjId → At → Type 0

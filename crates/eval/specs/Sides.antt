@@ -3,11 +3,11 @@ use Rattle.std.specs.Prelude.{◌≡◌, Option, Some, None}
 use Rattle.code.specs.Frames.{place_in}
 use Rattle.code.specs.declared.code.Code as code
 use Rattle.code.specs.declared.code.Code.{Code}
-use Rattle.erules.specs.At.{At}
-use Rattle.erules.specs.Fits.{frame_at}
-use Rattle.erules.specs.Doings.{datum_of, datum_read, state_end}
-use Rattle.erules.specs.Outcomes.{End}
-use Rattle.erules.specs.Rules.{defined, declared, declared_end, assigned, assigned_end, sought_slot, parts_of, parts_bound, parts_end, thrown_end, broken_end}
+use Rattle.eval_rules.specs.At.{At}
+use Rattle.eval_rules.specs.Fits.{frame_at}
+use Rattle.eval_rules.specs.Doings.{datum_of, datum_read, state_end}
+use Rattle.eval_rules.specs.Outcomes.{End}
+use Rattle.eval_rules.specs.Rules.{defined, declared, declared_end, assigned, assigned_end, sought_slot, parts_of, parts_bound, parts_end, thrown_end, broken_end}
 
 -- the right side of a definition, a variable, an assignment, a throw, a broken reference and the state of one
 abbrev pub right_side : Code → Option Code

@@ -1,11 +1,11 @@
 -- What is evaluated for no value.
 use Rattle.std.specs.Prelude.{Result}
 use Rattle.values.specs.Data.{Val}
-use Rattle.erules.specs.At.{At}
-use Rattle.erules.specs.Outcomes.{End, value, halt}
-use Rattle.erules.specs.Answered.{OnAnswer}
-use Rattle.erules.specs.declared.end.Stop.{Stop}
-use Rattle.erules.specs.declared.working.Working.{Working}
+use Rattle.eval_rules.specs.At.{At}
+use Rattle.eval_rules.specs.Outcomes.{End, value, halt}
+use Rattle.eval_rules.specs.Answered.{OnAnswer}
+use Rattle.eval_rules.specs.declared.end.Stop.{Stop}
+use Rattle.eval_rules.specs.declared.working.Working.{Working}
 
 -- for an answer: this holds of some value as its end, or of its halt
 abbrev pub OnSomeEnd : {A : Type 0} → Result A Stop → Working → (End → At → Type 0) → Type 0

@@ -1,20 +1,20 @@
 // What an expression does with the value of its right side.
 ghost use Rattle.std.specs.Prelude.{◌≡◌};
 ghost use Rattle.values.specs.View.{val_of};
-ghost use Rattle.eobjects.specs.Making.{TakesParts};
-ghost use Rattle.erules.specs.Doings.{datum_of, datum_read};
-ghost use Rattle.erules.specs.Outcomes.{value as value_end};
-ghost use Rattle.erules.specs.Answered.{OnEnd};
-ghost use Rattle.erules.specs.View.{at};
+ghost use Rattle.eval_objects.specs.Making.{TakesParts};
+ghost use Rattle.eval_rules.specs.Doings.{datum_of, datum_read};
+ghost use Rattle.eval_rules.specs.Outcomes.{value as value_end};
+ghost use Rattle.eval_rules.specs.Answered.{OnEnd};
+ghost use Rattle.eval_rules.specs.View.{at};
 ghost use Rattle.eval.specs.Sides.{is_placed, taken_at, taken_end};
 
 use code::code::Code;
-use emessages::ends::take_end;
-use emessages::references::{give_broken, give_state};
-use eobjects::nouns::{assign, bind_parts, declare, match_pattern};
-use erules::end::Stop;
-use erules::wanted::thrown;
-use erules::working::Working;
+use eval_messages::ends::take_end;
+use eval_messages::references::{give_broken, give_state};
+use eval_objects::nouns::{assign, bind_parts, declare, match_pattern};
+use eval_rules::end::Stop;
+use eval_rules::wanted::thrown;
+use eval_rules::working::Working;
 use kernele::tree::Pattern;
 use values::value::Value;
 

@@ -1,8 +1,8 @@
 -- How a run over a reader and a writer ends.
 use Rattle.std.proofs.Common.{◌≡◌, ℕ, List, Option, Result, Ok, Err}
 use Rattle.std.specs.Prelude.{IfOk, IfErr}
-use Rattle.streams.specs.declared.lines.Lines.{Lines}
-use Rattle.streams.specs.declared.outlet.Outlet.{Outlet}
+use Rattle.stepper_streams.specs.declared.lines.Lines.{Lines}
+use Rattle.stepper_streams.specs.declared.outlet.Outlet.{Outlet}
 use Rattle.stepper.specs.Runs.{RunsToEnd, RunsTo}
 use Rattle.stepper.specs.declared.engine.Summary.{Summary}
 use Rattle.stepper.specs.declared.fault.Fault.{Fault}

@@ -1,9 +1,9 @@
 -- The engine over a reader and a writer.
 use Rattle.std.specs.Prelude.{◌≡◌, ℕ, List, [], false, Option, Result, Ok, Err}
-use Rattle.streams.specs.Lines.{reader, held, reads_failed, is_ended}
-use Rattle.streams.specs.Outlet.{writer, waiting, writes_failed}
-use Rattle.streams.specs.declared.lines.Lines.{Lines}
-use Rattle.streams.specs.declared.outlet.Outlet.{Outlet}
+use Rattle.stepper_streams.specs.Lines.{reader, held, reads_failed, is_ended}
+use Rattle.stepper_streams.specs.Outlet.{writer, waiting, writes_failed}
+use Rattle.stepper_streams.specs.declared.lines.Lines.{Lines}
+use Rattle.stepper_streams.specs.declared.outlet.Outlet.{Outlet}
 use Rattle.stepper.specs.Runs.{RunsToEnd, RunsTo}
 use Rattle.stepper.specs.declared.ended.Ended.{Ended}
 use Rattle.stepper.specs.declared.ended.Ended.TheVariants.{Ran}

@@ -1,12 +1,12 @@
 // The engine over a reader and a writer.
 ghost use Rattle.evats.specs.Edge.{EndsAs};
 
-use crew::crew::Crew;
+use book_crew::crew::Crew;
 use std::alloc::Global;
 use std::io::{Read, Write};
 use stepper::{Ended, Fault, Limits, run};
-use streams::lines::Lines;
-use streams::outlet::Outlet;
+use stepper_streams::lines::Lines;
+use stepper_streams::outlet::Outlet;
 
 /// Answers the commands of a reader on a writer, with a crew for `work`.
 pub(crate) fn answer_commands<I: Read + Drop, O: Write + Drop, C: Crew>(

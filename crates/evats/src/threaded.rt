@@ -3,7 +3,7 @@ use bench::once::work_once;
 use bench::work::NoGate;
 use book::book::{Book, MOST_STEPS};
 use book::fault::{BookFault, WorkFault};
-use crew::crew::{Crew, Order};
+use book_crew::crew::{Crew, Order};
 use std::alloc::Global;
 use std::sync::Wait;
 use std::thread::Threads;

@@ -9,10 +9,10 @@ use Rattle.ids.specs.declared.cells.CellKey.{CellKey}
 use Rattle.ids.specs.declared.cells.CellKey.TheVariants as key
 use Rattle.post.specs.Messages.{Published}
 use Rattle.post.specs.MessageView.{message_of}
-use Rattle.erules.specs.OutboxView.{letter_of}
-use Rattle.erules.specs.declared.outbox.Letter.{Letter}
-use Rattle.worldcells.specs.World.{Content, message, published, World, published_as}
-use Rattle.worldcells.specs.Theory.{cells}
+use Rattle.eval_rules.specs.OutboxView.{letter_of}
+use Rattle.eval_rules.specs.declared.outbox.Letter.{Letter}
+use Rattle.world_cells.specs.World.{Content, message, published, World, published_as}
+use Rattle.world_cells.specs.Theory.{cells}
 use Rattle.event.specs.Events.{letters_from, on_the_board, counted}
 use Rattle.event.proofs.Waiting.{drop_here}
 

@@ -8,10 +8,10 @@ use Rattle.ids.specs.declared.names.PromId.{PromId}
 use Rattle.ids.specs.declared.cells.CellKey.{CellKey}
 use Rattle.ids.specs.declared.cells.CellKey.TheVariants as key
 use Rattle.kernele.specs.Tree.{Name, Trees}
-use Rattle.scopes.specs.Scope.{own_names_in}
+use Rattle.kernele_scopes.specs.Scope.{own_names_in}
 use Rattle.post.specs.Messages.{Vat, Message}
-use Rattle.worldcells.specs.World.{Content, vat, message}
-use Rattle.worldcells.specs.Theory.{cells}
+use Rattle.world_cells.specs.World.{Content, vat, message}
+use Rattle.world_cells.specs.Theory.{cells}
 use Rattle.event.specs.Events.{birth_foot, ask_foot, moved_foot, first_message, known_as, opening_message, asked_message}
 use Rattle.event.specs.Effects.{Brings, known_by}
 use Rattle.event.proofs.Leaving.{brings_once}

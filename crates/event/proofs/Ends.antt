@@ -10,7 +10,7 @@ use Rattle.refs.specs.Leads.{Leads, at_value, at_open, leads_on as leads_further
 use Rattle.refs.proofs.Rules.{most-is, what_ends_is_led, found_all}
 use Rattle.refs.proofs.Steps.{walk-value}
 use Rattle.refs.proofs.Way.{is_promise}
-use Rattle.worldcells.specs.World.{World, published_as}
+use Rattle.world_cells.specs.World.{World, published_as}
 use Rattle.event.specs.Walks.{leads_on, is_known, fences_of, last_fences}
 
 -- an end that is a promise is unresolved

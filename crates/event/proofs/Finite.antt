@@ -17,13 +17,13 @@ use Rattle.sends.specs.Making.{Making, refused, makes, Published, ending}
 use Rattle.post.specs.Delivery.{Delivery}
 use Rattle.post.specs.Messages.{Message}
 use Rattle.post.specs.declared.earlier.Earlier.{Earlier}
-use Rattle.erules.specs.At.{At}
-use Rattle.erules.specs.Doings.{under, behind, given_by, data_of, resolver_out}
-use Rattle.erules.specs.Outcomes.{End, value, halt}
-use Rattle.erules.specs.Rules.{Callee, on_object, on_ejector, on_datum, on_far, callee_of, callee_read, receiver, receiver_read, bound_in, Target}
-use Rattle.erules.proofs.Kept.{IsKept, items_kept}
-use Rattle.deliveries.specs.Turn.{knowing, Found, start, call_coming, Led, led_gives, led_uses, led_enters, Begins, opens, asks, calls, waits, Told, told, lost, telling, telling_at, ending_at, outcome_by, Outcome, Delivers, delivers, finish}
-use Rattle.deliveries.specs.Touched.{delivery_touched, delivery_written}
+use Rattle.eval_rules.specs.At.{At}
+use Rattle.eval_rules.specs.Doings.{under, behind, given_by, data_of, resolver_out}
+use Rattle.eval_rules.specs.Outcomes.{End, value, halt}
+use Rattle.eval_rules.specs.Rules.{Callee, on_object, on_ejector, on_datum, on_far, callee_of, callee_read, receiver, receiver_read, bound_in, Target}
+use Rattle.eval_rules.proofs.Kept.{IsKept, items_kept}
+use Rattle.turn_deliveries.specs.Turn.{knowing, Found, start, call_coming, Led, led_gives, led_uses, led_enters, Begins, opens, asks, calls, waits, Told, told, lost, telling, telling_at, ending_at, outcome_by, Outcome, Delivers, delivers, finish}
+use Rattle.turn_deliveries.specs.Touched.{delivery_touched, delivery_written}
 use Rattle.event.specs.Events.{Lists, Leaves, is_lost}
 use Rattle.event.proofs.Listing.{tests_agree}
 

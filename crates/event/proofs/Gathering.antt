@@ -9,7 +9,7 @@ use Rattle.history.specs.Records.{Record}
 use Rattle.heap.specs.State as heap
 use Rattle.heap.specs.State.{Cell}
 use Rattle.cells.specs.declared.touches.Touch.{Touch}
-use Rattle.worldcells.specs.Theory.{cells}
+use Rattle.world_cells.specs.Theory.{cells}
 use Rattle.event.specs.Entries.{Entry, entry_in, entries_in, keys_in, left_at, left_in, kept_left, kept_at}
 
 -- the items up to a place, with the next one

@@ -21,14 +21,14 @@ use Rattle.heap.proofs.Cells.{cell_self}
 use Rattle.refs.specs.Walks.{Walk, most_walked}
 use Rattle.sends.specs.Vats.{Nothing, resolution_in}
 use Rattle.sends.specs.Playing.{views_in}
-use Rattle.erules.specs.Laws.{AgreeOn, with_cells}
+use Rattle.eval_rules.specs.Laws.{AgreeOn, with_cells}
 use Rattle.post.specs.Delivery.{Call, Delivery, opening, asked, sent, waiting}
 use Rattle.post.specs.Messages.{Vat, Place, flying, done, waits_at, arrived, Message, Published}
-use Rattle.worldcells.specs.Events.{Act, forward, learn, turn, Event, event_in, with_notes}
-use Rattle.worldcells.specs.World.{Content, message, World, vat_in, message_in, published_in, cell_content, lives_in, cell_key, published_as, vat_state}
-use Rattle.deliveries.specs.Touched.{delivery_touched, delivery_written}
-use Rattle.deliveries.specs.Turn.{Found}
-use Rattle.deliveries.proofs.Turns.{delivery_same, delivery_framed, SameCells, delivery_cells}
+use Rattle.world_cells.specs.Events.{Act, forward, learn, turn, Event, event_in, with_notes}
+use Rattle.world_cells.specs.World.{Content, message, World, vat_in, message_in, published_in, cell_content, lives_in, cell_key, published_as, vat_state}
+use Rattle.turn_deliveries.specs.Touched.{delivery_touched, delivery_written}
+use Rattle.turn_deliveries.specs.Turn.{Found}
+use Rattle.turn_deliveries.proofs.Turns.{delivery_same, delivery_framed, SameCells, delivery_cells}
 use Rattle.event.specs.Events.{Foot, AreNamed, birth_foot, ask_foot, moved_foot, goes_on, Leaves, in_world, learning, untouched, learnt, learn_foot, is_lost, DeliversOn, Turn, Turns, TurnLeaves, letters_from, on_the_board, counted, made_by, turn_reads, turn_foot, Does, births, asks, arrives, forwards, learns, turns, notes_of, DoesNoted, events, noted_events}
 use Rattle.event.specs.Ready.{first_undone}
 use Rattle.event.specs.Walks.{board_walk, looked_up, awaited, found_by, delivery_walk, may_end, ends_there, is_known}

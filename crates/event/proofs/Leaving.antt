@@ -27,14 +27,14 @@ use Rattle.heap.specs.Found.{touch_in, touched_in, writes_in, written_part, left
 use Rattle.heap.specs.declared.reach.Footprint.{Footprint}
 use Rattle.refs.specs.Walks.{same_promise}
 use Rattle.post.specs.Messages.{done, Message, Published}
-use Rattle.erules.specs.Outbox.{is_published}
-use Rattle.erules.specs.OutboxView.{note_of, outbox_of}
-use Rattle.erules.specs.PublicationsView.{EachOnce as EachPublishedOnce}
-use Rattle.worldcells.specs.World.{Content, message, World, cell_key, published_as, vat_state}
-use Rattle.worldcells.specs.Theory.{cells, kepts_of}
-use Rattle.deliveries.specs.Turn.{Told, told, lost}
-use Rattle.deliveries.specs.Outcomes.{kept, told_of, outcome_on}
-use Rattle.deliveries.specs.declared.outcome.Outcome as code
+use Rattle.eval_rules.specs.Outbox.{is_published}
+use Rattle.eval_rules.specs.OutboxView.{note_of, outbox_of}
+use Rattle.eval_rules.specs.PublicationsView.{EachOnce as EachPublishedOnce}
+use Rattle.world_cells.specs.World.{Content, message, World, cell_key, published_as, vat_state}
+use Rattle.world_cells.specs.Theory.{cells, kepts_of}
+use Rattle.turn_deliveries.specs.Turn.{Told, told, lost}
+use Rattle.turn_deliveries.specs.Outcomes.{kept, told_of, outcome_on}
+use Rattle.turn_deliveries.specs.declared.outcome.Outcome as code
 use Rattle.event.specs.Events.{noted_events, Foot, AreNew, Leaves, TurnLeaves, is_lost, turn_foot, turn_reads, learn_foot, learnt, in_world, letters_from, on_the_board, counted, made_by}
 use Rattle.event.specs.Effects.{Brings, BringsLearnt, BringsTurn, turn_of}
 use Rattle.event.specs.Entries.{Entry, EachOnce, entries_of, cells_in, keys_in, left_in, left_unless, left_of, kept_left}

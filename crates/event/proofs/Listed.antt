@@ -14,8 +14,8 @@ use Rattle.ids.proofs.Keys.{equal_self}
 use Rattle.heap.specs.State as heap
 use Rattle.heap.specs.State.{Cell, top, slot_cell, object_cell, view_cell, fence_cell, same_cell}
 use Rattle.heap.proofs.Cells.{cell_exact, cell_self}
-use Rattle.worldcells.specs.World.{cell_key, content_of}
-use Rattle.worldcells.specs.Theory.{cells}
+use Rattle.world_cells.specs.World.{cell_key, content_of}
+use Rattle.world_cells.specs.Theory.{cells}
 use Rattle.event.specs.Events.{in_world}
 use Rattle.event.specs.Entries.{Entry, cells_in, keys_in, left_at, left_in, kept_left}
 

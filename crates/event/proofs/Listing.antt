@@ -10,7 +10,7 @@ use Rattle.history.specs.Subject.{found}
 use Rattle.heap.specs.State as heap
 use Rattle.heap.specs.State.{Cell, top, slot_cell, object_cell, view_cell, fence_cell, same_cell, State}
 use Rattle.heap.proofs.Cells.{cell_exact, cell_self}
-use Rattle.worldcells.specs.World.{Content, content_of, cell_key}
+use Rattle.world_cells.specs.World.{Content, content_of, cell_key}
 use Rattle.event.specs.Events.{events}
 
 -- one key names one cell of a vat

@@ -4,7 +4,7 @@ use Rattle.std.proofs.lemmas.List.{take_more, take_all, map-append}
 use Rattle.ids.specs.declared.names.VatNo.{VatNo}
 use Rattle.kernele.specs.Tree.{Name}
 use Rattle.post.specs.Messages.{Vat}
-use Rattle.worldcells.specs.World.{World, vat_named}
+use Rattle.world_cells.specs.World.{World, vat_named}
 use Rattle.event.specs.Events.{AreNamed}
 use Rattle.event.specs.Naming.{Numbers}
 

@@ -6,10 +6,10 @@ use Rattle.history.specs.Journal.{Entry, live_set}
 use Rattle.history.specs.Records.{Row, State, contents, entries_of}
 use Rattle.history.specs.Stands.{Stands}
 use Rattle.history.proofs.Standing.{standing_run}
-use Rattle.erules.specs.OutboxView.{note_of}
-use Rattle.erules.specs.declared.outbox.Note as code-note
-use Rattle.worldcells.specs.Events.{Noted, Event, event_in, with_notes}
-use Rattle.worldcells.specs.World.{World, empty}
+use Rattle.eval_rules.specs.OutboxView.{note_of}
+use Rattle.eval_rules.specs.declared.outbox.Note as code-note
+use Rattle.world_cells.specs.Events.{Noted, Event, event_in, with_notes}
+use Rattle.world_cells.specs.World.{World, empty}
 use Rattle.event.specs.Events.{Foot, Does, births, asks, arrives, forwards, learns, turns, notes_of, DoesNoted, events, noted_events}
 use Rattle.event.proofs.Law.{is_turn, noted_laws}
 

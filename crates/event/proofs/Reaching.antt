@@ -18,13 +18,13 @@ use Rattle.sends.specs.Playing.{views_in, looked_at}
 use Rattle.sends.proofs.Followed.{ends_are_followed}
 use Rattle.post.specs.Delivery.{Delivery, waiting}
 use Rattle.post.specs.Messages.{Message, Published}
-use Rattle.erules.specs.At.{At}
-use Rattle.erules.specs.Doings.{under}
-use Rattle.erules.specs.Outcomes.{End}
-use Rattle.deliveries.specs.Turn.{Found, start, Begins, opens, asks, calls, waits, Outcome, Delivers, delivers}
-use Rattle.deliveries.specs.Touched.{delivery_touched}
-use Rattle.deliveries.proofs.Coming.{led_later}
-use Rattle.deliveries.proofs.Ending.{finish_later}
+use Rattle.eval_rules.specs.At.{At}
+use Rattle.eval_rules.specs.Doings.{under}
+use Rattle.eval_rules.specs.Outcomes.{End}
+use Rattle.turn_deliveries.specs.Turn.{Found, start, Begins, opens, asks, calls, waits, Outcome, Delivers, delivers}
+use Rattle.turn_deliveries.specs.Touched.{delivery_touched}
+use Rattle.turn_deliveries.proofs.Coming.{led_later}
+use Rattle.turn_deliveries.proofs.Ending.{finish_later}
 use Rattle.event.specs.Events.{untouched}
 use Rattle.event.specs.Learning.{behind_learning}
 

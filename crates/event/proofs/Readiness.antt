@@ -5,10 +5,10 @@ use Rattle.ids.specs.declared.names.VatNo.{VatNo}
 use Rattle.ids.specs.declared.names.MsgId.{MsgId}
 use Rattle.ids.specs.declared.cells.CellKey.TheVariants as key
 use Rattle.post.specs.Messages.{Place, flying, at_vat, done, waits_at, Message}
-use Rattle.worldcells.specs.Events.{Act, turn, Event}
-use Rattle.worldcells.specs.World.{Content, message, World, message_in, message_of, vat_state}
-use Rattle.deliveries.specs.Touched.{delivery_touched, delivery_written}
-use Rattle.deliveries.proofs.Turns.{delivery_somehow}
+use Rattle.world_cells.specs.Events.{Act, turn, Event}
+use Rattle.world_cells.specs.World.{Content, message, World, message_in, message_of, vat_state}
+use Rattle.turn_deliveries.specs.Touched.{delivery_touched, delivery_written}
+use Rattle.turn_deliveries.proofs.Turns.{delivery_somehow}
 use Rattle.event.specs.Events.{Foot, Turn, Turns, AreNew, letters_from, turn_foot, Does, births, asks, arrives, forwards, learns, turns}
 use Rattle.event.specs.Laws.{CanHappen, HasNoMessage}
 use Rattle.event.specs.Ready.{misplaced, lost_message, first_undone, leads_there, early_by, unready_message, place_of, IsReady}

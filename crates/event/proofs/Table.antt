@@ -18,12 +18,12 @@ use Rattle.sends.specs.Vats.{references, entered, coming_in}
 use Rattle.sends.specs.Table.{Foot, among, Goes, promise_entered, references_come}
 use Rattle.sends.proofs.Feet.{foot_then}
 use Rattle.sends.proofs.Table.{promises_are_entered, references_come_in}
-use Rattle.worldcells.specs.World.{Content, message, World, published_as, vat_state}
-use Rattle.erules.specs.At.{At}
-use Rattle.erules.specs.Outcomes.{Cause, reason}
-use Rattle.erules.specs.Outbox.{Outbox}
-use Rattle.deliveries.specs.Turn.{Found, Told, told, lost, telling, finish, Outcome, outcome_by, lost_outbox, Delivers, delivers}
-use Rattle.deliveries.proofs.Table.{delivery_by_table}
+use Rattle.world_cells.specs.World.{Content, message, World, published_as, vat_state}
+use Rattle.eval_rules.specs.At.{At}
+use Rattle.eval_rules.specs.Outcomes.{Cause, reason}
+use Rattle.eval_rules.specs.Outbox.{Outbox}
+use Rattle.turn_deliveries.specs.Turn.{Found, Told, told, lost, telling, finish, Outcome, outcome_by, lost_outbox, Delivers, delivers}
+use Rattle.turn_deliveries.proofs.Table.{delivery_by_table}
 use Rattle.event.specs.Events.{Lists, learning, untouched, learnt, is_lost, in_world, on_the_board, counted, letters_from}
 use Rattle.event.specs.Laws.{TurnsTouchByTheTable, VatsLearnByTheTable, AbandonedTurnsWriteTwoCells, IsMessageOrBoard}
 use Rattle.event.specs.Table.{learn_touches}

@@ -10,7 +10,7 @@ use Rattle.ids.specs.declared.names.MsgId.{MsgId}
 use Rattle.ids.specs.declared.names.PromId.{PromId}
 use Rattle.eorder.specs.Fences.{joined, Rises}
 use Rattle.post.specs.Messages.{done_in}
-use Rattle.worldcells.specs.World.{World, message_of, published_as}
+use Rattle.world_cells.specs.World.{World, message_of, published_as}
 use Rattle.event.specs.Ready.{first_undone, least_with}
 use Rattle.event.specs.Walks.{awaited_for, awaited_along}
 

@@ -13,7 +13,7 @@ use Rattle.values.specs.Promises.{promise_of}
 use Rattle.refs.specs.Walks.{Resolutions, Walk, came, circled, onward, stepped, walk, most_walked}
 use Rattle.post.specs.Delivery.{Delivery, opening, asked, sent, waiting}
 use Rattle.post.specs.Messages.{Message, Published, done_in}
-use Rattle.worldcells.specs.World.{Content, World, message_in, published_in, published_as}
+use Rattle.world_cells.specs.World.{Content, World, message_in, published_in, published_as}
 use Rattle.event.specs.Events.{AreNew, counted}
 use Rattle.event.specs.Ready.{first_undone, least_with}
 use Rattle.event.specs.Walks.{by_the_board, board_walk, looked_up, awaited_for, awaited_along, awaited, fences_of, last_fences, found_by}

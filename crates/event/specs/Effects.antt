@@ -14,17 +14,17 @@ use Rattle.kernele.specs.Tree.{Name}
 use Rattle.heap.specs.State as heap
 use Rattle.heap.specs.State.{Cell}
 use Rattle.heap.specs.Found.{touched_in}
-use Rattle.erules.specs.OutboxView.{letter_of, note_of}
-use Rattle.erules.specs.PublicationsView.{publications_of}
-use Rattle.worldcells.specs.Events.{Event, with_notes}
+use Rattle.eval_rules.specs.OutboxView.{letter_of, note_of}
+use Rattle.eval_rules.specs.PublicationsView.{publications_of}
+use Rattle.world_cells.specs.Events.{Event, with_notes}
 use Rattle.post.specs.Messages.{Message, Published}
 use Rattle.post.specs.declared.earlier.Earlier.{Earlier}
-use Rattle.worldcells.specs.World.{World, message}
-use Rattle.worldcells.specs.Theory.{cells, kepts_of}
+use Rattle.world_cells.specs.World.{World, message}
+use Rattle.world_cells.specs.Theory.{cells, kepts_of}
 use Rattle.event.specs.Entries.{entries_of, keys_in}
 use Rattle.event.specs.Events.{AreNew, letters_from, Foot, DoesNoted, noted_events, Turn, TurnLeaves, Leaves, first_promise, turn_foot, learnt, learn_foot}
-use Rattle.deliveries.specs.Outcomes.{outcome_on, written_by}
-use Rattle.deliveries.specs.declared.outcome.Outcome as code
+use Rattle.turn_deliveries.specs.Outcomes.{outcome_on, written_by}
+use Rattle.turn_deliveries.specs.declared.outcome.Outcome as code
 use Rattle.event.specs.ReadyView.{IsWay}
 use Rattle.event.specs.declared.effects.Effects.{Effects}
 use Rattle.event.specs.declared.ready.Way.{Way}

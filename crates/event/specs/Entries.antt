@@ -14,11 +14,11 @@ use Rattle.heap.specs.State as heap
 use Rattle.heap.specs.State.{Cell, top, slot_cell, object_cell, view_cell, fence_cell, bound, held, made, viewed, fenced}
 use Rattle.heap.specs.View.{bind_of, object_of, view_of, same_name, same_slot, same_object, same_promise, same_target}
 use Rattle.heap.specs.declared.reach.Footprint.{Footprint}
-use Rattle.worldcells.specs.World.{Content, content_of, cell_key}
-use Rattle.worldcells.specs.Theory.{cells}
+use Rattle.world_cells.specs.World.{Content, content_of, cell_key}
+use Rattle.world_cells.specs.Theory.{cells}
 use Rattle.event.specs.Events.{in_world, is_lost}
-use Rattle.deliveries.specs.Outcomes.{told_of}
-use Rattle.deliveries.specs.declared.outcome.Outcome.{Outcome}
+use Rattle.turn_deliveries.specs.Outcomes.{told_of}
+use Rattle.turn_deliveries.specs.declared.outcome.Outcome.{Outcome}
 
 -- a cell that was touched, and what was written there, if it was written
 abbrev pub Entry : Type 0

@@ -11,7 +11,7 @@ use Rattle.ids.specs.declared.cells.CellKey.{CellKey}
 use Rattle.ids.specs.declared.cells.CellKey.TheVariants as key
 use Rattle.cells.specs.Doing.{Under, and_then, play}
 use Rattle.kernele.specs.Tree.{Name, Trees}
-use Rattle.scopes.specs.Scope.{own_names_in}
+use Rattle.kernele_scopes.specs.Scope.{own_names_in}
 use Rattle.values.specs.Data.{Val, object, ejector, promise}
 use Rattle.heap.specs.State as heap
 use Rattle.heap.specs.State.{Cell, Cells, same_cell, no_cells, view_cell, pending, State}
@@ -19,13 +19,13 @@ use Rattle.post.specs.Delivery.{Call, opening, asked, sent}
 use Rattle.post.specs.Messages.{Vat, at_vat, flying, done, waits_at, arrived, Message, Published}
 use Rattle.post.specs.declared.earlier.Earlier.{Earlier}
 use Rattle.sends.specs.Vats.{Vat as Doing, Nothing, references, entered, coming_in}
-use Rattle.worldcells.specs.Events.{birth, ask, arrive, forward, learn, turn, Event, event_in}
-use Rattle.worldcells.specs.Theory.{Rule, subject}
-use Rattle.worldcells.specs.World.{Content, vat, message, published, content_of, World, vat_named, message_of, published_as, same_vat, cell_key, vat_state}
+use Rattle.world_cells.specs.Events.{birth, ask, arrive, forward, learn, turn, Event, event_in}
+use Rattle.world_cells.specs.Theory.{Rule, subject}
+use Rattle.world_cells.specs.World.{Content, vat, message, published, content_of, World, vat_named, message_of, published_as, same_vat, cell_key, vat_state}
 use Rattle.event.specs.Ready.{leads_there, first_undone}
-use Rattle.erules.specs.Outbox.{Note}
-use Rattle.deliveries.specs.Touched.{delivery_touched, delivery_written}
-use Rattle.deliveries.specs.Turn.{Found, Told, told, lost, Outcome, Delivers}
+use Rattle.eval_rules.specs.Outbox.{Note}
+use Rattle.turn_deliveries.specs.Touched.{delivery_touched, delivery_written}
+use Rattle.turn_deliveries.specs.Turn.{Found, Told, told, lost, Outcome, Delivers}
 use Rattle.event.specs.Walks.{board_walk, looked_up, awaited, found_by}
 
 -- what an event makes first

@@ -6,7 +6,7 @@ use Rattle.ids.specs.declared.names.PromId.{PromId}
 use Rattle.refs.specs.Walks.{Walk}
 use Rattle.post.specs.Delivery.{Delivery, sent}
 use Rattle.post.specs.Messages.{Message}
-use Rattle.worldcells.specs.World.{World}
+use Rattle.world_cells.specs.World.{World}
 use Rattle.event.specs.Events.{goes_on}
 use Rattle.event.specs.Walks.{board_walk}
 use Rattle.event.specs.declared.forwarding.Destination.{Destination}

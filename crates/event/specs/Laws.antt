@@ -11,11 +11,11 @@ use Rattle.heap.specs.State as heap
 use Rattle.heap.specs.State.{Cell, same_cell}
 use Rattle.post.specs.Messages.{Published}
 use Rattle.sends.specs.Table.{among}
-use Rattle.erules.specs.Outcomes.{Cause}
-use Rattle.deliveries.specs.Table.{delivery_foot}
-use Rattle.deliveries.specs.Turn.{lost}
-use Rattle.worldcells.specs.Events.{turn, Event}
-use Rattle.worldcells.specs.World.{Content, World, vat_state}
+use Rattle.eval_rules.specs.Outcomes.{Cause}
+use Rattle.turn_deliveries.specs.Table.{delivery_foot}
+use Rattle.turn_deliveries.specs.Turn.{lost}
+use Rattle.world_cells.specs.Events.{turn, Event}
+use Rattle.world_cells.specs.World.{Content, World, vat_state}
 use Rattle.event.specs.Events.{Foot, Does, notes_of, Leaves, learnt, is_lost, Turn, Turns, TurnLeaves, turn_foot}
 use Rattle.event.specs.Ready.{IsReady}
 use Rattle.event.specs.Table.{learn_touches}

@@ -3,7 +3,7 @@ use Rattle.std.specs.Prelude.{◌≡◌, List, map}
 use Rattle.ids.specs.declared.names.VatNo.{VatNo}
 use Rattle.kernele.specs.Tree.{Name}
 use Rattle.post.specs.Messages.{Vat}
-use Rattle.worldcells.specs.World.{World}
+use Rattle.world_cells.specs.World.{World}
 use Rattle.event.specs.Events.{AreNamed}
 
 -- the numbers of the vats of these names

@@ -5,7 +5,7 @@ use Rattle.ids.specs.Cells.{message_cmp}
 use Rattle.ids.specs.declared.names.VatNo.{VatNo}
 use Rattle.ids.specs.declared.names.MsgId.{MsgId}
 use Rattle.post.specs.Messages.{Message, done_in, waits_at}
-use Rattle.worldcells.specs.World.{World, message_of}
+use Rattle.world_cells.specs.World.{World, message_of}
 use Rattle.event.specs.Walks.{delivery_walk, may_end, awaited}
 use Rattle.event.specs.declared.ready.Unready.{Unready}
 use Rattle.event.specs.declared.ready.Unready.TheVariants as why

@@ -3,8 +3,8 @@ use Rattle.std.specs.Prelude.{◌≡◌, true, false, Some, None}
 use Rattle.ids.specs.declared.names.VatNo.{VatNo}
 use Rattle.post.specs.Delivery.{Delivery}
 use Rattle.post.specs.Messages.{Message}
-use Rattle.worldcells.specs.World.{World}
-use Rattle.deliveries.specs.Outcomes.{found_of}
+use Rattle.world_cells.specs.World.{World}
+use Rattle.turn_deliveries.specs.Outcomes.{found_of}
 use Rattle.event.specs.Ready.{leads_there, first_undone, unready_at}
 use Rattle.event.specs.Walks.{awaited, delivery_walk, found_by, looked_up, may_end}
 use Rattle.event.specs.declared.ready.Delay.{Delay}

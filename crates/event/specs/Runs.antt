@@ -1,8 +1,8 @@
 -- Runs of events, one after another.
 use Rattle.std.specs.Prelude.{List, reverse}
 use Rattle.history.specs.Subject.{Run}
-use Rattle.worldcells.specs.Events.{Event}
-use Rattle.worldcells.specs.World.{World, empty}
+use Rattle.world_cells.specs.Events.{Event}
+use Rattle.world_cells.specs.World.{World, empty}
 use Rattle.event.specs.Events.{events}
 
 -- events in order lead from this world to that one, each possible where it comes

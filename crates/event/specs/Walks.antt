@@ -13,8 +13,8 @@ use Rattle.post.specs.Delivery.{Delivery, sent, waiting}
 use Rattle.post.specs.Messages.{Message, Published}
 use Rattle.sends.specs.Vats.{reference_in}
 use Rattle.sends.specs.Playing.{views_in}
-use Rattle.worldcells.specs.World.{World, published_as, same_vat, vat_state}
-use Rattle.deliveries.specs.Turn.{Found}
+use Rattle.world_cells.specs.World.{World, published_as, same_vat, vat_state}
+use Rattle.turn_deliveries.specs.Turn.{Found}
 
 -- what promises were published as, as a map from promises to values
 abbrev pub by_the_board : World → Resolutions

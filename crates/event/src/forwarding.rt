@@ -4,7 +4,7 @@ ghost use Rattle.event.specs.Events.{goes_on as goes_on_of};
 ghost use Rattle.event.specs.Forwarding.{onward_of, to_of};
 ghost use Rattle.post.specs.MessageView.{message_of};
 ghost use Rattle.values.specs.View.{val_of};
-ghost use Rattle.worldcells.specs.View.{world_of};
+ghost use Rattle.world_cells.specs.View.{world_of};
 
 use crate::walks::{Walked, walk};
 use ids::names::{PromId, VatNo};
@@ -12,7 +12,7 @@ use post::delivery::Delivery;
 use post::message::Message;
 use std::alloc::{AllocError, Global};
 use values::value::Value;
-use worldcells::world::World;
+use world_cells::world::World;
 
 /// The vat to which a message goes on, and the promises on the way of its target.
 #[derive(Drop)]

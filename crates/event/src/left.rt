@@ -6,8 +6,8 @@ ghost use Rattle.std.specs.Map.{keys_of};
 ghost use Rattle.cells.specs.Touches.{touched_list};
 ghost use Rattle.heap.specs.State.{Cell, Content, top, slot_cell, object_cell, view_cell, fence_cell, bound, held, made, viewed, fenced};
 ghost use Rattle.heap.specs.View.{bind_of, object_of, view_of};
-ghost use Rattle.worldcells.specs.Theory.{kepts_of, kept_of};
-ghost use Rattle.worldcells.specs.World as model;
+ghost use Rattle.world_cells.specs.Theory.{kepts_of, kept_of};
+ghost use Rattle.world_cells.specs.World as model;
 ghost use Rattle.event.specs.Entries.{entries_in, entries_of, keys_in, EachOnce, left_at, left_in, kept_left, kept_at};
 ghost use Rattle.values.specs.View.{val_of};
 
@@ -23,7 +23,7 @@ use ids::reference::Reference;
 use ids::text::Text;
 use std::alloc::AllocError;
 use values::value::Value;
-use worldcells::record::CellRecord;
+use world_cells::record::CellRecord;
 
 /// What names cells of a vat that hold such contents.
 trait VatKey<V>: Key {

@@ -3,23 +3,23 @@ ghost use Rattle.std.specs.Prelude.{◌≡◌, ◌++◌, ◌∷◌, [], Some, If
 ghost use Rattle.history.specs.Records.{record_of};
 ghost use Rattle.ids.specs.declared.cells.CellKey.TheVariants as key;
 ghost use Rattle.post.specs.MessageView.{message_of, published_of};
-ghost use Rattle.erules.specs.OutboxView.{letter_of};
-ghost use Rattle.erules.specs.PublicationsView.{publications_of, EachOnce};
-ghost use Rattle.worldcells.specs.Theory.{kepts_of, kept_of, cells};
-ghost use Rattle.worldcells.specs.View.{world_of};
-ghost use Rattle.worldcells.specs.World as model;
+ghost use Rattle.eval_rules.specs.OutboxView.{letter_of};
+ghost use Rattle.eval_rules.specs.PublicationsView.{publications_of, EachOnce};
+ghost use Rattle.world_cells.specs.Theory.{kepts_of, kept_of, cells};
+ghost use Rattle.world_cells.specs.View.{world_of};
+ghost use Rattle.world_cells.specs.World as model;
 ghost use Rattle.event.specs.Events.{counted, letters_from, on_the_board};
 
 use cells::store::Record;
-use erules::outbox::Letter;
-use erules::publications::Publications;
+use eval_rules::outbox::Letter;
+use eval_rules::publications::Publications;
 use ids::cells::CellKey;
 use ids::names::{EventName, MsgId, PromId};
 use post::message::Message;
 use post::published::Published;
 use std::alloc::AllocError;
-use worldcells::record::CellRecord;
-use worldcells::world::World;
+use world_cells::record::CellRecord;
+use world_cells::world::World;
 
 /// A record of a message's cell, in which an event wrote this.
 pub(crate) fn message_record(event: EventName, name: MsgId, message: Message) -> CellRecord

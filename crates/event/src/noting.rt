@@ -1,8 +1,8 @@
 // Notes for the log.
 ghost use Rattle.std.specs.Prelude.{◌≡◌, map, IfOk};
-ghost use Rattle.erules.specs.OutboxView.{note_of};
+ghost use Rattle.eval_rules.specs.OutboxView.{note_of};
 
-use erules::outbox::Note;
+use eval_rules::outbox::Note;
 use std::alloc::{AllocError, Global};
 
 /// The same note, whose text is shared.

@@ -10,15 +10,14 @@ ghost use Rattle.post.specs.MessageView.{message_of, place_of};
 ghost use Rattle.post.specs.Messages.{at_vat, done_in};
 ghost use Rattle.values.specs.Data.{null};
 ghost use Rattle.values.specs.View.{val_of};
-ghost use Rattle.worldcells.specs.View.{world_of};
-ghost use Rattle.worldcells.specs.World.{message_of as message_in_world, message as message_content, vat_state};
-ghost use Rattle.deliveries.specs.Outcomes.{found_of};
+ghost use Rattle.world_cells.specs.View.{world_of};
+ghost use Rattle.world_cells.specs.World.{message_of as message_in_world, message as message_content, vat_state};
+ghost use Rattle.turn_deliveries.specs.Outcomes.{found_of};
 ghost use Rattle.event.specs.Ready.{first_undone as first_undone_of, lost, early_by};
 ghost use Rattle.event.specs.Walks.{delivery_walk, found_by, is_known as is_known_of, is_there as is_there_of, looked_up, may_end};
 ghost use Rattle.event.specs.ReadyView.{CannotLead, IsUnready, IsWay};
 
 use crate::walks::{Walked, awaited_along, last_fences, walk};
-use deliveries::lead::Lead;
 use eorder::carried::Carried;
 use eorder::fence::Fence;
 use heap::state::{VatState, View};
@@ -31,8 +30,9 @@ use refs::ends::end_of;
 use refs::resolve::Resolve;
 use std::alloc::{AllocError, Global};
 use std::sync::Arc;
+use turn_deliveries::lead::Lead;
 use values::value::Value;
-use worldcells::world::World;
+use world_cells::world::World;
 
 /// Why a message may not be delivered now.
 #[derive(Drop)]

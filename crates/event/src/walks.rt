@@ -4,8 +4,8 @@ ghost use Rattle.values.specs.Promises.{promise_of};
 ghost use Rattle.eorder.specs.Fences.{joined};
 ghost use Rattle.event.specs.Walks.{awaited_along as awaited_along_of, awaited_for, board_walk, by_the_board, fences_of as fences_of_publication, last_fences as last_fences_of, leads_on, names_behind};
 ghost use Rattle.values.specs.View.{val_of};
-ghost use Rattle.worldcells.specs.View.{world_of};
-ghost use Rattle.worldcells.specs.World.{published_as};
+ghost use Rattle.world_cells.specs.View.{world_of};
+ghost use Rattle.world_cells.specs.World.{published_as};
 
 use eorder::carried::Carried;
 use eorder::fence::Fence;
@@ -17,7 +17,7 @@ use sends::fences::reference_of;
 use std::alloc::{AllocError, Global};
 use std::sync::Arc;
 use values::value::Value;
-use worldcells::world::World;
+use world_cells::world::World;
 
 /// What promises were published as.
 #[derive(Drop)]
@@ -27,7 +27,7 @@ struct Board<'a> {
 
 impl<'a> Resolve for Board<'a> {
     ghost use Rattle.event.specs.Walks.{by_the_board};
-    ghost use Rattle.worldcells.specs.View.{world_of};
+    ghost use Rattle.world_cells.specs.View.{world_of};
 
     ghost resolutions = { λ b. by_the_board (world_of b.world.now) };
 

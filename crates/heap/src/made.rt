@@ -5,7 +5,7 @@ ghost use Rattle.code.specs.Frames.{only_names, fits_methods};
 ghost use Rattle.code.specs.Index.{index_in, index_fits};
 ghost use Rattle.code.specs.Props.{fits_methods-prop, index_fits-prop};
 ghost use Rattle.heap.specs.Names.{names_of};
-ghost use Rattle.scopes.specs.Scope.{name_of};
+ghost use Rattle.kernele_scopes.specs.Scope.{name_of};
 
 use crate::state::Noun;
 use code::code::MethodCode;

@@ -6,8 +6,8 @@ use Rattle.history.specs.Subject.{Laws, meets}
 use Rattle.history.specs.Journal.{Entry, name_of, caused, causes_of}
 use Rattle.history.specs.Records.{State, Row, entries_of}
 use Rattle.history.proofs.Lists.{all_map, all_both, filter_same}
-use Rattle.worldcells.specs.World.{World}
-use Rattle.worldcells.specs.Theory.{Rule, subject, cells}
+use Rattle.world_cells.specs.World.{World}
+use Rattle.world_cells.specs.Theory.{Rule, subject, cells}
 use Rattle.journal.specs.Items.{Item}
 use Rattle.journal.specs.Lines.{plain, Line, entries_in, bare, lines_of}
 use Rattle.journal.specs.Standing.{Told, told, row_told, ItemsStand}

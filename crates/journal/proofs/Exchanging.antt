@@ -6,8 +6,8 @@ use Rattle.history.specs.Subject.{Laws}
 use Rattle.history.specs.Journal.{Entry, name_of, caused}
 use Rattle.history.specs.Records.{State, Row, entries_of}
 use Rattle.history.proofs.Lists.{all_map, all_swap, all_reversed, filter_same}
-use Rattle.worldcells.specs.World.{World}
-use Rattle.worldcells.specs.Theory.{Rule, subject, cells}
+use Rattle.world_cells.specs.World.{World}
+use Rattle.world_cells.specs.Theory.{Rule, subject, cells}
 use Rattle.journal.specs.Items.{Item, exchanged}
 use Rattle.journal.specs.Lines.{plain, Line, entries_in, lines_of, in_order}
 use Rattle.journal.specs.Standing.{ItemsStand}

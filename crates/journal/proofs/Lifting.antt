@@ -6,8 +6,8 @@ use Rattle.history.specs.Journal.{Entry, live_set, without, both, Part, Sound, C
 use Rattle.history.specs.Records.{State, Row, entries_of}
 use Rattle.history.proofs.Lists.{all_of, all_both, all_mapped}
 use Rattle.journal.proofs.Reversed.{all_unmapped}
-use Rattle.worldcells.specs.World.{World}
-use Rattle.worldcells.specs.Theory.{Rule, subject, cells}
+use Rattle.world_cells.specs.World.{World}
+use Rattle.world_cells.specs.Theory.{Rule, subject, cells}
 use Rattle.journal.specs.Items.{Item}
 use Rattle.journal.specs.Lines.{plain, Line, entries_in, lines_of}
 use Rattle.journal.specs.Standing.{ItemsStand}

@@ -4,10 +4,10 @@ use Rattle.std.specs.List.{AllByRecursion}
 use Rattle.std.proofs.lemmas.List.{map-append, take_more, length-map, length-append}
 use Rattle.ids.specs.declared.names.EventName.{EventName}
 use Rattle.ids.specs.declared.cells.CellKey.{CellKey}
-use Rattle.links.specs.Followers.{may_follow, Follows}
-use Rattle.links.specs.declared.followers.Followers.{Followers}
-use Rattle.links.proofs.Placing.{Swapped}
-use Rattle.links.proofs.Following.{Keeps, follows_kept, follows_append}
+use Rattle.journal_links.specs.Followers.{may_follow, Follows}
+use Rattle.journal_links.specs.declared.followers.Followers.{Followers}
+use Rattle.journal_links.proofs.Placing.{Swapped}
+use Rattle.journal_links.proofs.Following.{Keeps, follows_kept, follows_append}
 use Rattle.history.proofs.Lists.{all_map}
 use Rattle.journal.specs.Items.{Item, item_of, last_of, lasts_of, number_of, exchanged}
 use Rattle.journal.specs.Links.{AreFollowers, names_of}

@@ -7,8 +7,8 @@ use Rattle.history.specs.Records.{Seen, State, Record, Row, hold, entries_of, sw
 use Rattle.history.proofs.Lists.{all_map}
 use Rattle.history.proofs.Standing.{entries_undone, entries_redone}
 use Rattle.ids.specs.declared.cells.CellKey.{CellKey}
-use Rattle.worldcells.specs.World.{World}
-use Rattle.worldcells.specs.Theory.{Rule, subject, cells}
+use Rattle.world_cells.specs.World.{World}
+use Rattle.world_cells.specs.Theory.{Rule, subject, cells}
 use Rattle.journal.specs.Items.{Item}
 use Rattle.journal.specs.Lines.{plain, Line, lines_of}
 use Rattle.journal.specs.Standing.{ItemsStand}

@@ -3,8 +3,8 @@ use Rattle.std.proofs.Common.{◌≡◌, ℕ, suc, ◌+◌, Bool, true, false, c
 use Rattle.std.proofs.lemmas.List.{reverse-append, length-reverse, length-map}
 use Rattle.history.specs.Records.{State, Row}
 use Rattle.history.specs.Walks.{spots}
-use Rattle.worldcells.specs.World.{World}
-use Rattle.worldcells.specs.Theory.{Rule, subject, cells}
+use Rattle.world_cells.specs.World.{World}
+use Rattle.world_cells.specs.Theory.{Rule, subject, cells}
 use Rattle.journal.specs.Items.{Item}
 use Rattle.journal.specs.Lines.{line_of, lines_of}
 use Rattle.journal.specs.Standing.{Told, told, row_told, ItemsStand}

@@ -9,8 +9,8 @@ use Rattle.history.specs.Subject.{found}
 use Rattle.ids.specs.CellKeys.{same_key}
 use Rattle.ids.specs.declared.cells.CellKey.{CellKey}
 use Rattle.ids.proofs.CellKeys.{same_exact}
-use Rattle.worldcells.specs.Theory.{cells}
-use Rattle.worldcells.specs.World.{Content}
+use Rattle.world_cells.specs.Theory.{cells}
+use Rattle.world_cells.specs.World.{Content}
 use Rattle.history.specs.Records.{Record}
 use Rattle.journal.specs.Items.{Item, item_of, lasts_of, wrote_one_of}
 use Rattle.journal.specs.Journals.{settled_item}

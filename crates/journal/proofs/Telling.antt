@@ -10,8 +10,8 @@ use Rattle.history.proofs.Lists.{all_map, all_of, filter_same, all_reversed}
 use Rattle.history.proofs.Naming.{named_filter, named_reversed}
 use Rattle.history.proofs.Standing.{chains_stand}
 use Rattle.ids.specs.declared.cells.CellKey.{CellKey}
-use Rattle.worldcells.specs.World.{World}
-use Rattle.worldcells.specs.Theory.{Rule, subject, cells}
+use Rattle.world_cells.specs.World.{World}
+use Rattle.world_cells.specs.Theory.{Rule, subject, cells}
 use Rattle.journal.specs.Items.{Item}
 use Rattle.journal.specs.Lines.{plain, Line, entries_in, bare, reached, is_cause, line_of, lines_of}
 use Rattle.journal.specs.Standing.{Told, told, row_told, ItemsStand}

@@ -8,7 +8,7 @@ use Rattle.history.specs.Chains.{HasCells}
 use Rattle.history.proofs.Writing.{wrote_touches}
 use Rattle.ids.specs.CellKeys.{same_key}
 use Rattle.ids.specs.declared.cells.CellKey.{CellKey}
-use Rattle.worldcells.specs.Theory.{Rule, subject}
+use Rattle.world_cells.specs.Theory.{Rule, subject}
 use Rattle.journal.specs.Lines.{plain}
 
 -- tests of which each passes where the other does

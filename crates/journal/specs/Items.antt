@@ -5,10 +5,10 @@ use Rattle.history.specs.Records.{State, Record, swap_state, swap_record}
 use Rattle.ids.specs.CellKeys.{same_key}
 use Rattle.ids.specs.declared.names.EventName.{EventName}
 use Rattle.ids.specs.declared.cells.CellKey.{CellKey}
-use Rattle.erules.specs.OutboxView.{note_of}
-use Rattle.worldcells.specs.Events.{Noted, with_notes}
-use Rattle.worldcells.specs.EventView.{event_of}
-use Rattle.worldcells.specs.Theory.{cells, kepts_of}
+use Rattle.eval_rules.specs.OutboxView.{note_of}
+use Rattle.world_cells.specs.Events.{Noted, with_notes}
+use Rattle.world_cells.specs.EventView.{event_of}
+use Rattle.world_cells.specs.Theory.{cells, kepts_of}
 use Rattle.journal.specs.declared.entry.Mark.{Mark}
 use Rattle.journal.specs.declared.entry.Mark.TheVariants as mark
 use Rattle.journal.specs.declared.entry.Touched.{Touched}

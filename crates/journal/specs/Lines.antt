@@ -6,7 +6,7 @@ use Rattle.history.specs.Journal.{Entry, is_in, caused}
 use Rattle.history.specs.Chains.{wrote, chain, last_of}
 use Rattle.ids.specs.CellKeys.{same_key}
 use Rattle.ids.specs.declared.cells.CellKey.{CellKey}
-use Rattle.worldcells.specs.Events.{Noted}
+use Rattle.world_cells.specs.Events.{Noted}
 use Rattle.journal.specs.Items.{Item}
 
 -- events with their notes and the cells that they touched and wrote, and without what they wrote there

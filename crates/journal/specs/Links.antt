@@ -2,8 +2,8 @@
 use Rattle.std.specs.Prelude.{ℕ, ◌-◌, cond, List, map, Option, Some, None, slice_get, nat_lt}
 use Rattle.std.specs.List.{AllByRecursion}
 use Rattle.ids.specs.declared.names.EventName.{EventName}
-use Rattle.links.specs.Followers.{Follows}
-use Rattle.links.specs.declared.followers.Followers.{Followers}
+use Rattle.journal_links.specs.Followers.{Follows}
+use Rattle.journal_links.specs.declared.followers.Followers.{Followers}
 use Rattle.journal.specs.Items.{Item}
 
 -- the names of items

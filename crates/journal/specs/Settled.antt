@@ -3,7 +3,7 @@ use Rattle.std.specs.Prelude.{◌≡◌, ℕ, List, map, Option, Some, None}
 use Rattle.ids.specs.declared.names.VatNo.{VatNo}
 use Rattle.ids.specs.declared.cells.CellKey.{CellKey}
 use Rattle.kernele.specs.Tree.{Name}
-use Rattle.worldcells.specs.Events.{Act, birth, turn}
+use Rattle.world_cells.specs.Events.{Act, birth, turn}
 use Rattle.journal.specs.Items.{Item, lasts_of}
 use Rattle.journal.specs.Lines.{writer_of}
 use Rattle.journal.specs.declared.entry.Touched.{Touched}

@@ -3,9 +3,9 @@ use Rattle.std.specs.Prelude.{◌≡◌, ℕ, Bool, List, Option, map, reverse}
 use Rattle.history.specs.Records.{State, Record, Row}
 use Rattle.history.specs.Stands.{Stands}
 use Rattle.ids.specs.declared.cells.CellKey.{CellKey}
-use Rattle.worldcells.specs.Events.{Noted}
-use Rattle.worldcells.specs.World.{World}
-use Rattle.worldcells.specs.Theory.{Rule, subject, cells}
+use Rattle.world_cells.specs.Events.{Noted}
+use Rattle.world_cells.specs.World.{World}
+use Rattle.world_cells.specs.Theory.{Rule, subject, cells}
 use Rattle.journal.specs.Items.{Item}
 
 -- what the theory has of an item: all but its seat

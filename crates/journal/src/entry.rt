@@ -2,18 +2,18 @@
 ghost use Rattle.std.specs.Prelude.{◌≡◌, map, IfOk};
 ghost use Rattle.std.specs.List.{list_any};
 ghost use Rattle.ids.specs.CellKeys.{same_key};
-ghost use Rattle.worldcells.specs.Records.{record_of};
-ghost use Rattle.worldcells.specs.Theory.{state_of_world};
+ghost use Rattle.world_cells.specs.Records.{record_of};
+ghost use Rattle.world_cells.specs.Theory.{state_of_world};
 ghost use Rattle.journal.specs.Items.{item_of, lasts_of, number_of, wrote_one_of, may_exchange};
 ghost use Rattle.journal.specs.Lines.{last_among};
 
-use erules::outbox::Note;
+use eval_rules::outbox::Note;
 use ids::cells::CellKey;
 use ids::names::EventName;
 use std::alloc::{AllocError, Global};
-use worldcells::event::Event;
-use worldcells::record::CellRecord;
-use worldcells::world::World;
+use world_cells::event::Event;
+use world_cells::record::CellRecord;
+use world_cells::world::World;
 
 /// Whether an event counts: an undone one is as if it had never been.
 #[derive(Clone, Copy, PartialEq, Eq)]

@@ -2,7 +2,7 @@
 ghost use Rattle.std.specs.Prelude.{◌≡◌, ◌+◌, ◌<◌, true, length, map, Some, slice_get};
 ghost use Rattle.std.specs.Option.{option_map};
 ghost use Rattle.ids.specs.declared.cells.CellKey.{CellKey};
-ghost use Rattle.links.specs.Places.{place_of, ArePlaces};
+ghost use Rattle.journal_links.specs.Places.{place_of, ArePlaces};
 ghost use Rattle.journal.specs.Items.{Item, item_of, number_of};
 ghost use Rattle.journal.specs.Lines.{writer_of, wrote_cell};
 ghost use Rattle.journal.specs.Links.{AreFollowers, names_of, open_at};
@@ -12,8 +12,8 @@ use crate::entry::{Entry, writer_among};
 use crate::settled::Settled;
 use ids::cells::CellKey;
 use ids::names::EventName;
-use links::followers::Followers;
-use links::places::Places;
+use journal_links::followers::Followers;
+use journal_links::places::Places;
 
 /// A journal, the oldest entry first: settled entries, which can no longer be taken back, and those behind them. It knows where the
 /// entry of each event stands, and who followed it.

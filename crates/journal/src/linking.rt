@@ -1,12 +1,12 @@
 // Entries are listed with those that they followed.
 ghost use Rattle.std.specs.Prelude.{◌≡◌, true, OnOk};
 ghost use Rattle.ids.specs.declared.names.EventName.{EventName};
-ghost use Rattle.links.specs.Followers.{may_follow, Follows};
+ghost use Rattle.journal_links.specs.Followers.{may_follow, Follows};
 ghost use Rattle.journal.specs.Items.{lasts_of};
 
 use crate::entry::{Entry, Touched};
 use ids::names::EventName;
-use links::followers::Followers;
+use journal_links::followers::Followers;
 use std::alloc::AllocError;
 
 /// Lists an event with the last writers of the cells that it touched. Fails only for want of memory; it may be listed with some then.

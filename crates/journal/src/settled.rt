@@ -1,7 +1,7 @@
 // Entries that can no longer be taken back.
 ghost use Rattle.std.specs.Prelude.{◌≡◌, true, map, IfOk};
 ghost use Rattle.std.specs.List.{AllByRecursion};
-ghost use Rattle.worldcells.specs.EventView.{act_of};
+ghost use Rattle.world_cells.specs.EventView.{act_of};
 ghost use Rattle.journal.specs.Items.{item_of, lasts_of, wrote_one_of};
 ghost use Rattle.journal.specs.Settled.{Keeps, newborn, whose_turn, written_by};
 
@@ -10,7 +10,7 @@ use ids::names::{EventName, VatNo};
 use ids::text::Text;
 use std::alloc::{AllocError, Global};
 use std::snapshot::Snapshot;
-use worldcells::event::Action;
+use world_cells::event::Action;
 
 /// What is kept of an entry that can no longer be taken back: its event's name, its seat, and the cells that it wrote, with their last
 /// writers before it; of a birth also the name of the vat, and of a turn the vat.

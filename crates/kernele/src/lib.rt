@@ -4,4 +4,4 @@
 mod printing;
 pub mod tree;
 
-pub use printing::print;
+pub use stepper_printing::print;

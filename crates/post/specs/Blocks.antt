@@ -1,7 +1,7 @@
 -- When the handler of a `when` fits the names that it begins with.
 use Rattle.std.specs.Prelude.{false, ◌++◌, Option, Some, None}
 use Rattle.std.proofs.Common.{refl}
-use Rattle.scopes.specs.Scope.{name_of}
+use Rattle.kernele_scopes.specs.Scope.{name_of}
 use Rattle.code.specs.Frames.{Frame, only_names, fits_all}
 use Rattle.code.specs.Props.{fits_all-prop}
 use Rattle.post.specs.declared.when.Handler.{Handler}

@@ -2,7 +2,7 @@
 use Rattle.std.specs.Prelude.{List, Bool, true, false, Option, Some, None}
 use Rattle.std.specs.Option.{option_map}
 use Rattle.kernele.specs.Tree.{Name}
-use Rattle.scopes.specs.declared.naming.TopName.{TopName}
+use Rattle.kernele_scopes.specs.declared.naming.TopName.{TopName}
 use Rattle.values.specs.Data.{Val}
 use Rattle.eorder.specs.Carried.{Carried}
 use Rattle.post.specs.Delivery.{Delivery}

@@ -6,8 +6,8 @@ ghost use Rattle.code.specs.Props.{fits_all-prop};
 ghost use Rattle.code.specs.View.{trees_of_codes};
 
 use code::code::Code;
+use code_resolver::resolve;
 use kernele::tree::Program;
-use resolver::resolve;
 use std::alloc::{AllocError, Global};
 use std::sync::Arc;
 

@@ -1,12 +1,12 @@
 // What is known of vats by their names.
 ghost use Rattle.std.specs.Prelude.{◌≡◌, IfOk};
 ghost use Rattle.std.specs.Arc.{arc_value};
-ghost use Rattle.scopes.specs.Check.{scopes_of};
-ghost use Rattle.scopes.specs.Scope.{asked_scopes};
+ghost use Rattle.kernele_scopes.specs.Check.{scopes_of};
+ghost use Rattle.kernele_scopes.specs.Scope.{asked_scopes};
 
 use ids::names::VatNo;
 use ids::text::Text;
-use scopes::{Outer, TopName};
+use kernele_scopes::{Outer, TopName};
 use std::alloc::{AllocError, Global};
 use std::sync::Arc;
 

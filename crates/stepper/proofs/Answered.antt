@@ -8,12 +8,12 @@ use Rattle.ereader.specs.Texts as texts
 use Rattle.ereader.specs.Shown as reading
 use Rattle.ereader.specs.declared.fault.ReadFault.{ReadFault}
 use Rattle.ereader.specs.declared.fault.ReadFault.TheVariants as read_fault
-use Rattle.worldcells.specs.Events.{birth, ask, arrive, forward, learn}
+use Rattle.world_cells.specs.Events.{birth, ask, arrive, forward, learn}
 use Rattle.event.specs.Events.{Foot, Turn, birth_foot, ask_foot}
 use Rattle.post.specs.Messages.{Vat}
-use Rattle.deliveries.specs.Turn.{Told}
-use Rattle.agenda.specs.declared.agenda.Step.{Step}
-use Rattle.agenda.specs.declared.agenda.Step.TheVariants as step
+use Rattle.turn_deliveries.specs.Turn.{Told}
+use Rattle.book_agenda.specs.declared.agenda.Step.{Step}
+use Rattle.book_agenda.specs.declared.agenda.Step.TheVariants as step
 use Rattle.journal.specs.Lines.{Line}
 use Rattle.causality.specs.Exact.{Cone}
 use Rattle.book.specs.Refusals.{Refusal}
@@ -23,7 +23,7 @@ use Rattle.book.specs.Calls.{EntersNext, TurnsNext, Undoes, Redoes, Exchanges, S
 use Rattle.ids.specs.declared.names.EventName.{EventName}
 use Rattle.ids.specs.declared.names.MsgId.{MsgId}
 use Rattle.ids.specs.declared.names.PromId.{PromId}
-use Rattle.commands.specs.declared.numbers.PromiseName.{PromiseName}
+use Rattle.stepper_commands.specs.declared.numbers.PromiseName.{PromiseName}
 use Rattle.book.specs.Learning.{LearnsNamed, TellsNamed}
 use Rattle.ids.specs.declared.names.VatNo.{VatNo}
 use Rattle.book.specs.Fault as book
@@ -32,21 +32,21 @@ use Rattle.book.specs.declared.fault.BookFault.{BookFault}
 use Rattle.book.specs.declared.fault.BookFault.TheVariants as fault
 use Rattle.stepper.specs.declared.engine.Engine.{Engine}
 use Rattle.book.specs.BookView.{book_of}
-use Rattle.streams.specs.Outlet as outlet
-use Rattle.streams.specs.declared.outlet.Outlet.{Outlet}
+use Rattle.stepper_streams.specs.Outlet as outlet
+use Rattle.stepper_streams.specs.declared.outlet.Outlet.{Outlet}
 use Rattle.stepper.specs.declared.reply.Written.{Written}
 use Rattle.stepper.specs.Written.{Adds}
 use Rattle.stepper.specs.Engine.{Happens}
-use Rattle.commands.specs.Commands as commands
-use Rattle.commands.specs.Commands.{Spelled, fault_text}
-use Rattle.commands.specs.Scripts.{script_of, behind_lines}
-use Rattle.commands.specs.declared.command.LineFault.{LineFault}
+use Rattle.stepper_commands.specs.Commands as commands
+use Rattle.stepper_commands.specs.Commands.{Spelled, fault_text}
+use Rattle.stepper_commands.specs.Scripts.{script_of, behind_lines}
+use Rattle.stepper_commands.specs.declared.command.LineFault.{LineFault}
 use Rattle.stepper.specs.Replies.{refused, Answers, ask_without_memory, asked_without_memory, asked_unread, ask_refused, Moves, move_without_memory, arrival_refused, arrives, forwarding_refused, forwards, turn_without_memory_named, turn_refused, turns, learning_refused, learns, learn_without_memory, learn_refused, learn_accepted, EnabledIn, enabled, enabled_without_memory, done_text, count_of, undone_text, redone_text, listed, logged, logged_text, cone_found, undo_cone_found, cone_without_memory, cone_refused, undo_without_memory, undo_refused, undo_accepted, undo_cone_without_memory, undo_cone_refused, redo_without_memory, redo_refused, redo_accepted, exchange_refused, exchange_accepted, settle_without_memory, settle_refused, settle_accepted, exchanged_text, settled_text, AnswersBirth, birth_without_memory, script_without_memory, script_unread, birth_refused, birth_accepted, ask_accepted, queued_text, turned_text, FirstReply, born, answered, script_refused}
 use Rattle.causewaylog.specs.Turns.{live_in}
 use Rattle.causewaylog.specs.Log.{log_text}
-use Rattle.printing.specs.Listing.{journal_text, cone_text}
-use Rattle.printing.specs.Steps.{ShowsEnabled}
-use Rattle.worldcells.specs.World.{World}
+use Rattle.stepper_printing.specs.Listing.{journal_text, cone_text}
+use Rattle.stepper_printing.specs.Steps.{ShowsEnabled}
+use Rattle.world_cells.specs.World.{World}
 use Rattle.stepper.specs.declared.engine.Limits.{Limits}
 
 -- a fault of the book is written as the refusal that it tells, or as want of memory

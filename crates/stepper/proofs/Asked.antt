@@ -2,19 +2,19 @@
 use Rattle.std.proofs.Common.{◌≡◌, List, ℕ, Option, Some, None, true, false, sym, subst, ◌∙◌}
 use Rattle.ids.specs.declared.names.EventName.{EventName}
 use Rattle.ids.specs.declared.names.MsgId.{MsgId}
-use Rattle.scopes.specs.Words.{no_memory}
+use Rattle.kernele_scopes.specs.Words.{no_memory}
 use Rattle.journal.specs.Lines.{Line}
-use Rattle.worldcells.specs.World.{World}
-use Rattle.commands.specs.declared.numbers.ObjectName.{ObjectName}
-use Rattle.commands.specs.Commands as commands
-use Rattle.commands.specs.Commands.{Spelled}
-use Rattle.questions.specs.Deliveries.{MessageTold, message_refusal}
-use Rattle.questions.specs.Events.{EventTold}
-use Rattle.questions.specs.Objects.{ObjectTold, LacksObject}
-use Rattle.questions.specs.Refusals.{Refuses, pair_refusal, event_refusal, unanswered_text}
-use Rattle.questions.specs.Why.{Why}
-use Rattle.questions.specs.declared.unanswered.Unanswered.{Unanswered}
-use Rattle.questions.specs.declared.unanswered.Unanswered.TheVariants as unanswered
+use Rattle.world_cells.specs.World.{World}
+use Rattle.stepper_commands.specs.declared.numbers.ObjectName.{ObjectName}
+use Rattle.stepper_commands.specs.Commands as commands
+use Rattle.stepper_commands.specs.Commands.{Spelled}
+use Rattle.stepper_questions.specs.Deliveries.{MessageTold, message_refusal}
+use Rattle.stepper_questions.specs.Events.{EventTold}
+use Rattle.stepper_questions.specs.Objects.{ObjectTold, LacksObject}
+use Rattle.stepper_questions.specs.Refusals.{Refuses, pair_refusal, event_refusal, unanswered_text}
+use Rattle.stepper_questions.specs.Why.{Why}
+use Rattle.stepper_questions.specs.declared.unanswered.Unanswered.{Unanswered}
+use Rattle.stepper_questions.specs.declared.unanswered.Unanswered.TheVariants as unanswered
 use Rattle.book.specs.Books.{Book}
 use Rattle.stepper.specs.Replies.{refused, Answers, why_without_memory, why_refused, why_told, event_without_memory, event_refused, event_told, message_without_memory, message_refused, message_told, object_without_memory, object_refused, object_told}
 use Rattle.stepper.specs.declared.engine.Limits.{Limits}

@@ -5,16 +5,16 @@ use Rattle.std.specs.declared.string.String.{String}
 use Rattle.std.specs.declared.alloc.Global.{Global}
 use Rattle.book.specs.Books.{Book}
 use Rattle.book.specs.BookView.{book_of}
-use Rattle.commands.specs.Commands as commands
-use Rattle.commands.specs.Commands.{Spelled, fault_text}
-use Rattle.commands.specs.Scripts.{script_of, behind_lines}
-use Rattle.commands.specs.ScriptView.{IsScript}
-use Rattle.commands.specs.declared.command.LineFault.{LineFault}
-use Rattle.streams.specs.Lines.{is_ended, unread, IsSound}
-use Rattle.streams.specs.Outlet.{is_cut, Tells}
-use Rattle.streams.specs.declared.lines.Lines.{Lines}
-use Rattle.streams.specs.declared.outlet.Outlet.{Outlet}
-use Rattle.streams.proofs.Giving.{tells_none, tells_both, tells_given}
+use Rattle.stepper_commands.specs.Commands as commands
+use Rattle.stepper_commands.specs.Commands.{Spelled, fault_text}
+use Rattle.stepper_commands.specs.Scripts.{script_of, behind_lines}
+use Rattle.stepper_commands.specs.ScriptView.{IsScript}
+use Rattle.stepper_commands.specs.declared.command.LineFault.{LineFault}
+use Rattle.stepper_streams.specs.Lines.{is_ended, unread, IsSound}
+use Rattle.stepper_streams.specs.Outlet.{is_cut, Tells}
+use Rattle.stepper_streams.specs.declared.lines.Lines.{Lines}
+use Rattle.stepper_streams.specs.declared.outlet.Outlet.{Outlet}
+use Rattle.stepper_streams.proofs.Giving.{tells_none, tells_both, tells_given}
 use Rattle.stepper.specs.Replies.{Answers, AnswersBirth, FirstReply, born, skipped, no_command, refused, script_lines, line_feeds}
 use Rattle.stepper.specs.Engine.{Happens}
 use Rattle.stepper.specs.Written.{Adds}

@@ -12,11 +12,11 @@ use Rattle.ids.specs.declared.names.EventName.{EventName}
 use Rattle.ids.specs.declared.names.VatNo.{VatNo}
 use Rattle.ids.specs.declared.names.MsgId.{MsgId}
 use Rattle.post.specs.Messages.{Message}
-use Rattle.deliveries.specs.Turn.{Delivers, Outcome, Told}
-use Rattle.deliveries.proofs.Turns.{delivery_same}
-use Rattle.erules.specs.Outbox.{Note}
-use Rattle.worldcells.specs.Events.{Event, Noted, Act, turn, event_in, with_notes}
-use Rattle.worldcells.specs.World.{World, vat_state}
+use Rattle.turn_deliveries.specs.Turn.{Delivers, Outcome, Told}
+use Rattle.turn_deliveries.proofs.Turns.{delivery_same}
+use Rattle.eval_rules.specs.Outbox.{Note}
+use Rattle.world_cells.specs.Events.{Event, Noted, Act, turn, event_in, with_notes}
+use Rattle.world_cells.specs.World.{World, vat_state}
 use Rattle.event.specs.Events.{Foot, DoesNoted, events, Turn, Turns, turn_foot}
 use Rattle.event.specs.Walks.{found_by}
 use Rattle.event.specs.Runs.{PlainRun}

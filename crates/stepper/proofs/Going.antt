@@ -5,17 +5,17 @@ use Rattle.std.specs.Io.KnownBytes.{Consumes, IsAtEnd, prepend_known}
 use Rattle.std.proofs.KnownBytes.{Consumes-nil, Consumes-trans, Consumes-kept}
 use Rattle.book.specs.Books.{Book, blank}
 use Rattle.book.specs.BookView.{book_of}
-use Rattle.commands.specs.Lines.{behind_line}
-use Rattle.commands.specs.Commands.{Spelled}
-use Rattle.commands.specs.declared.command.LineFault.{LineFault}
-use Rattle.streams.specs.Counted.{IsOneMore}
-use Rattle.streams.specs.Lines.{held, reads_failed, lines_refused, is_ended, unread, IsSound, TakesLine, HasNoLine}
-use Rattle.streams.specs.Outlet.{is_cut, Gives, IsCutShort}
-use Rattle.streams.specs.Pieces.{Reads, IsOneLine}
-use Rattle.streams.specs.declared.line.Line.{Line}
-use Rattle.streams.specs.declared.lines.Lines.{Lines}
-use Rattle.streams.specs.declared.outlet.Outlet.{Outlet}
-use Rattle.streams.proofs.Giving.{gives_none, gives_both, cut_behind, gives_as}
+use Rattle.stepper_commands.specs.Lines.{behind_line}
+use Rattle.stepper_commands.specs.Commands.{Spelled}
+use Rattle.stepper_commands.specs.declared.command.LineFault.{LineFault}
+use Rattle.stepper_streams.specs.Counted.{IsOneMore}
+use Rattle.stepper_streams.specs.Lines.{held, reads_failed, lines_refused, is_ended, unread, IsSound, TakesLine, HasNoLine}
+use Rattle.stepper_streams.specs.Outlet.{is_cut, Gives, IsCutShort}
+use Rattle.stepper_streams.specs.Pieces.{Reads, IsOneLine}
+use Rattle.stepper_streams.specs.declared.line.Line.{Line}
+use Rattle.stepper_streams.specs.declared.lines.Lines.{Lines}
+use Rattle.stepper_streams.specs.declared.outlet.Outlet.{Outlet}
+use Rattle.stepper_streams.proofs.Giving.{gives_none, gives_both, cut_behind, gives_as}
 use Rattle.stepper.specs.Replies.{FirstReply, Replies, RepliesToAll, whole_ones, with_last, IsWhole, said, script_lines}
 use Rattle.stepper.specs.Engine.{Happens}
 use Rattle.stepper.specs.Taking.{StopsAtLine, Does, StopsWithin, AnswersLine, StopsLine, StaysOpen}

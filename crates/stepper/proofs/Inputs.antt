@@ -3,8 +3,8 @@ use Rattle.std.proofs.Common.{◌≡◌, ℕ, ◌<◌, Bool, false, List, [], �
 use Rattle.std.specs.Prelude.{◌||◌}
 use Rattle.std.proofs.lemmas.Bool.{false≢true}
 use Rattle.book.specs.Books.{Book, blank}
-use Rattle.commands.specs.Commands.{Spelled}
-use Rattle.commands.specs.declared.command.LineFault.{LineFault}
+use Rattle.stepper_commands.specs.Commands.{Spelled}
+use Rattle.stepper_commands.specs.declared.command.LineFault.{LineFault}
 use Rattle.stepper.specs.Replies.{FirstReply, skipped, no_command, born, answered, Replies, no_more, first_and_more, IsWhole, RepliesBefore, none_yet, whole_and_more}
 use Rattle.stepper.specs.Laws.{SameBook, EndsForWant, SameAnswer, IsToldLine, AllTold, no_replies, same_and_more, SameRun, InputsHaveOneText, WholeOnesAreAll}
 use Rattle.stepper.proofs.Entered.{same_book}

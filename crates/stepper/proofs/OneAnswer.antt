@@ -1,18 +1,18 @@
 -- One answer at most to a command, in books that are the same.
 use Rattle.std.proofs.Common.{ℕ, Bool, List, [], take, drop, refl, ap, subst, ◌∙◌}
 use Rattle.ids.specs.declared.names.MsgId.{MsgId}
-use Rattle.worldcells.specs.World.{World}
-use Rattle.agenda.specs.declared.agenda.Step.{Step}
+use Rattle.world_cells.specs.World.{World}
+use Rattle.book_agenda.specs.declared.agenda.Step.{Step}
 use Rattle.book.specs.Books.{Book}
 use Rattle.book.specs.Good.{NamesVatsOnce}
 use Rattle.book.proofs.Births.{names_vats_once}
-use Rattle.commands.specs.Commands as command
-use Rattle.commands.specs.Commands.{Spelled}
+use Rattle.stepper_commands.specs.Commands as command
+use Rattle.stepper_commands.specs.Commands.{Spelled}
 use Rattle.causewaylog.specs.Turns.{live_in}
 use Rattle.causewaylog.specs.Log.{log_text}
-use Rattle.printing.specs.Show.{Shows}
-use Rattle.printing.specs.Steps.{ShowsEnabled}
-use Rattle.printing.specs.Listing.{journal_text}
+use Rattle.stepper_printing.specs.Show.{Shows}
+use Rattle.stepper_printing.specs.Steps.{ShowsEnabled}
+use Rattle.stepper_printing.specs.Listing.{journal_text}
 use Rattle.stepper.specs.Replies.{logged_text, Moves, Answers, arrive_moves, forward_moves, turn_moves, stepped, runs, enabled_without_memory, enabled, show_without_memory, shown, journal_without_memory, listed, log_without_memory, logged}
 use Rattle.stepper.specs.Laws.{SameBook, IsForWant, book_without_memory, EndsForWant, SameAnswer, IsTold, OneAnswer, OneBirth}
 use Rattle.stepper.proofs.SameLines.{same_take, same_drop}

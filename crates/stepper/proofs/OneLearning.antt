@@ -12,17 +12,17 @@ use Rattle.ids.specs.declared.names.PromId.{PromId}
 use Rattle.ids.proofs.Keys.{exact_promises}
 use Rattle.kernele.specs.Tree.{Name}
 use Rattle.post.specs.Messages.{Vat}
-use Rattle.worldcells.specs.Events.{learn}
-use Rattle.worldcells.specs.World.{World, vat_named}
-use Rattle.agenda.specs.Agendas.{can_learn}
-use Rattle.agenda.proofs.Orders.{promise_total}
+use Rattle.world_cells.specs.Events.{learn}
+use Rattle.world_cells.specs.World.{World, vat_named}
+use Rattle.book_agenda.specs.Agendas.{can_learn}
+use Rattle.book_agenda.proofs.Orders.{promise_total}
 use Rattle.book.specs.Fault.{refusal_text}
 use Rattle.book.specs.Refusals.{Refusal, nothing_to_learn, first, refuse_where, full_refusal, learning_refusal, learn_refusal_by, learn_refusal}
 use Rattle.book.specs.Learning.{LearnsNamed, RefusesNamed, nothing_named, not_entered}
 use Rattle.book.specs.Books.{Book}
 use Rattle.book.specs.Calls.{EntersNext}
-use Rattle.commands.specs.Commands as command
-use Rattle.commands.specs.declared.numbers.PromiseName.{PromiseName}
+use Rattle.stepper_commands.specs.Commands as command
+use Rattle.stepper_commands.specs.declared.numbers.PromiseName.{PromiseName}
 use Rattle.stepper.specs.Replies.{refused, done_text, Answers, learn_without_memory, learn_refused, learn_accepted}
 use Rattle.stepper.specs.Laws.{SameBook, IsForWant, book_without_memory, SameAnswer}
 use Rattle.stepper.proofs.SameBooks.{same_learn, same_learning, same_book_back}

@@ -9,9 +9,9 @@ use Rattle.std.specs.declared.cmp.Ordering.TheVariants.{Less, Equal, Greater}
 use Rattle.ids.specs.Cells.{vat_cmp, promise_cmp}
 use Rattle.ids.specs.declared.names.EventName.{EventName}
 use Rattle.ids.specs.declared.names.MsgId.{MsgId}
-use Rattle.agenda.specs.Enabled.{message_in, learn_in, step_cmp, step_cmp_by}
-use Rattle.agenda.specs.declared.agenda.Step.{Step}
-use Rattle.agenda.proofs.Orders.{vat_total, message_total, promise_total}
+use Rattle.book_agenda.specs.Enabled.{message_in, learn_in, step_cmp, step_cmp_by}
+use Rattle.book_agenda.specs.declared.agenda.Step.{Step}
+use Rattle.book_agenda.proofs.Orders.{vat_total, message_total, promise_total}
 use Rattle.book.specs.Fault.{refusal_text}
 use Rattle.book.specs.Refusals.{Refusal}
 use Rattle.book.specs.Books.{Book}

@@ -7,7 +7,7 @@ use Rattle.etoken.specs.declared.token.Placed.{Placed}
 use Rattle.etoken.specs.declared.fault.TokenFault.{TokenFault}
 use Rattle.etoken.specs.Tokens.{Tokens}
 use Rattle.etoken.proofs.Answered.{one_answer as one_cut}
-use Rattle.egrammar.specs.View.{plain as plain_tokens}
+use Rattle.ereader_grammar.specs.View.{plain as plain_tokens}
 use Rattle.ereader.specs.Brackets.{IsTooDeep}
 use Rattle.ereader.specs.Texts.{ReadAs, refusal_of, read_fault, read_deep, read_unexpected}
 use Rattle.ereader.specs.Shown as reading
@@ -15,13 +15,13 @@ use Rattle.ereader.specs.declared.fault.ReadFault.{ReadFault}
 use Rattle.ereader.specs.declared.fault.ReadFault.TheVariants as fault
 use Rattle.ereader.proofs.Answered.{one_reading}
 use Rattle.post.specs.Messages.{Vat}
-use Rattle.worldcells.specs.Events.{ask, birth}
+use Rattle.world_cells.specs.Events.{ask, birth}
 use Rattle.event.specs.Events.{ask_foot, birth_foot}
 use Rattle.book.specs.Refusals.{ask_refusal, birth_refusal}
 use Rattle.book.specs.Books.{Book}
 use Rattle.book.specs.Calls.{EntersNext}
-use Rattle.commands.specs.Commands as command
-use Rattle.commands.specs.declared.command.LineFault.{LineFault}
+use Rattle.stepper_commands.specs.Commands as command
+use Rattle.stepper_commands.specs.declared.command.LineFault.{LineFault}
 use Rattle.stepper.specs.Replies.{refused, queued_text, Answers, ask_without_memory, asked_without_memory, asked_unread, ask_refused, ask_accepted, AnswersBirth, birth_without_memory, script_without_memory, script_refused, script_unread, birth_refused, birth_accepted}
 use Rattle.stepper.specs.Laws.{SameBook, IsForWant, book_without_memory, text_without_memory, other_place, SameAnswer}
 use Rattle.stepper.proofs.SameBooks.{same_ask, same_birth}

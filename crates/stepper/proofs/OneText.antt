@@ -26,14 +26,14 @@ use Rattle.ids.proofs.Keys.{exact_vats, exact_messages, exact_promises, exact_sl
 use Rattle.kernele.specs.Tree.{Name}
 use Rattle.heap.specs.State.{State}
 use Rattle.post.specs.Messages.{Vat}
-use Rattle.worldcells.specs.World.{Content, vat, bound, held, made, viewed, fenced, message, published, vat_in, World}
+use Rattle.world_cells.specs.World.{Content, vat, bound, held, made, viewed, fenced, message, published, vat_in, World}
 use Rattle.book.specs.Good.{NamesVatsOnce}
-use Rattle.agenda.specs.Enabled.{Out, Rises, Enabled, step_cmp}
-use Rattle.agenda.specs.declared.agenda.Step.{Step}
-use Rattle.agenda.proofs.Orders.{vat_total, message_total, promise_total}
-use Rattle.agenda.proofs.Rising.{in_none, in_head, in_tail, in_cases}
-use Rattle.printing.specs.Show.{Lists, noun_lines, slot_lines, object_lines, view_lines, fence_lines, StateLines, vat_line, VatLines, vat_lines_none, vat_lines_more, number_in, name_of, ByBirth, message_lines, board_lines, Shows}
-use Rattle.printing.specs.Steps.{enabled_text, ShowsEnabled}
+use Rattle.book_agenda.specs.Enabled.{Out, Rises, Enabled, step_cmp}
+use Rattle.book_agenda.specs.declared.agenda.Step.{Step}
+use Rattle.book_agenda.proofs.Orders.{vat_total, message_total, promise_total}
+use Rattle.book_agenda.proofs.Rising.{in_none, in_head, in_tail, in_cases}
+use Rattle.stepper_printing.specs.Show.{Lists, noun_lines, slot_lines, object_lines, view_lines, fence_lines, StateLines, vat_line, VatLines, vat_lines_none, vat_lines_more, number_in, name_of, ByBirth, message_lines, board_lines, Shows}
+use Rattle.stepper_printing.specs.Steps.{enabled_text, ShowsEnabled}
 use Rattle.stepper.proofs.OneMove.{step_reversed}
 
 -- ---- all that may be done

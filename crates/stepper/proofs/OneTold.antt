@@ -13,28 +13,28 @@ use Rattle.ids.specs.declared.names.VatNo.{VatNo}
 use Rattle.kernele.specs.Tree.{Name}
 use Rattle.heap.specs.State.{Object}
 use Rattle.post.specs.Messages.{Message}
-use Rattle.worldcells.specs.World.{World, message, message_of}
+use Rattle.world_cells.specs.World.{World, message, message_of}
 use Rattle.journal.specs.Lines.{plain, Line, entries_in}
 use Rattle.journal.proofs.Reversed.{map-reverse}
 use Rattle.book.specs.Books.{Book}
 use Rattle.book.specs.Good.{NamesVatsOnce}
-use Rattle.commands.specs.Commands as command
-use Rattle.commands.specs.declared.numbers.ObjectName.{ObjectName}
-use Rattle.printing.specs.Listing.{entry_line}
-use Rattle.printing.specs.Show.{message_line, names_text}
-use Rattle.printing.proofs.Listings.{lists_along}
-use Rattle.questions.specs.Cells.{key_of, cell_cmp}
-use Rattle.questions.specs.Chains.{Step, Chain, chain_none, chain_more, NoLater, Nearest}
-use Rattle.questions.specs.Deliveries.{MessageTold, delivery_lines, message_refusal, unsent}
-use Rattle.questions.specs.Events.{EventTold, told_lines}
-use Rattle.questions.specs.Objects.{ObjectTold, NoObject, found_in, object_lines}
-use Rattle.questions.specs.Refusals.{place_from, place_of, standing_at, standing_of, absent, settled, event_refusal, pair_refusal, unanswered_text}
-use Rattle.questions.specs.Why.{step_text, is_by, crossed_with, first_crossed, Steps, steps_none, steps_more, Crossing, is_crossed, is_neither, Reason, is_chained, is_apart, ReasonBetween, in_order, turned, at_one, Why}
-use Rattle.questions.specs.Writers.{Told, writer, told, Cells, first_cell}
-use Rattle.questions.specs.contracts.cell.CellOrd.TheImpl.Laws.{total-law}
-use Rattle.questions.specs.declared.cell.Cell.{Cell}
-use Rattle.questions.specs.declared.unanswered.Unanswered.{Unanswered}
-use Rattle.questions.proofs.CellNames.{exact_cells}
+use Rattle.stepper_commands.specs.Commands as command
+use Rattle.stepper_commands.specs.declared.numbers.ObjectName.{ObjectName}
+use Rattle.stepper_printing.specs.Listing.{entry_line}
+use Rattle.stepper_printing.specs.Show.{message_line, names_text}
+use Rattle.stepper_printing.proofs.Listings.{lists_along}
+use Rattle.stepper_questions.specs.Cells.{key_of, cell_cmp}
+use Rattle.stepper_questions.specs.Chains.{Step, Chain, chain_none, chain_more, NoLater, Nearest}
+use Rattle.stepper_questions.specs.Deliveries.{MessageTold, delivery_lines, message_refusal, unsent}
+use Rattle.stepper_questions.specs.Events.{EventTold, told_lines}
+use Rattle.stepper_questions.specs.Objects.{ObjectTold, NoObject, found_in, object_lines}
+use Rattle.stepper_questions.specs.Refusals.{place_from, place_of, standing_at, standing_of, absent, settled, event_refusal, pair_refusal, unanswered_text}
+use Rattle.stepper_questions.specs.Why.{step_text, is_by, crossed_with, first_crossed, Steps, steps_none, steps_more, Crossing, is_crossed, is_neither, Reason, is_chained, is_apart, ReasonBetween, in_order, turned, at_one, Why}
+use Rattle.stepper_questions.specs.Writers.{Told, writer, told, Cells, first_cell}
+use Rattle.stepper_questions.specs.contracts.cell.CellOrd.TheImpl.Laws.{total-law}
+use Rattle.stepper_questions.specs.declared.cell.Cell.{Cell}
+use Rattle.stepper_questions.specs.declared.unanswered.Unanswered.{Unanswered}
+use Rattle.stepper_questions.proofs.CellNames.{exact_cells}
 use Rattle.stepper.specs.Replies.{refused, Answers, why_without_memory, why_refused, why_told, event_without_memory, event_refused, event_told, message_without_memory, message_refused, message_told, object_without_memory, object_refused, object_told}
 use Rattle.stepper.specs.Laws.{SameLine, SameLines, SameBook, IsForWant, book_without_memory, SameAnswer}
 use Rattle.stepper.specs.declared.engine.Limits.{Limits}

@@ -9,22 +9,22 @@ use Rattle.history.specs.Subject.{Run, run_none, run_more}
 use Rattle.history.proofs.Lists.{all_map, all_append, all_reversed}
 use Rattle.ids.specs.declared.names.EventName.{EventName}
 use Rattle.kernele.specs.Tree.{Name}
-use Rattle.worldcells.specs.Events.{Event, Noted, event_in}
-use Rattle.worldcells.specs.World.{World, empty}
+use Rattle.world_cells.specs.Events.{Event, Noted, event_in}
+use Rattle.world_cells.specs.World.{World, empty}
 use Rattle.event.specs.Events.{Foot, events}
 use Rattle.event.specs.Runs.{PlainRun}
-use Rattle.ordering.specs.Theorems.{HaveOwnNames}
+use Rattle.event_ordering.specs.Theorems.{HaveOwnNames}
 use Rattle.journal.specs.Items.{exchanged}
 use Rattle.journal.specs.Lines.{Line, in_order}
 use Rattle.journal.proofs.Reversed.{map-map}
 use Rattle.journal.proofs.Neighbouring.{map-exchanged}
-use Rattle.agenda.specs.declared.agenda.Step.{Step}
+use Rattle.book_agenda.specs.declared.agenda.Step.{Step}
 use Rattle.book.specs.Books.{Book, blank}
 use Rattle.book.specs.Good.{NamesVatsOnce}
 use Rattle.book.specs.Refusals.{exchange_refusal}
 use Rattle.book.specs.Calls.{Enters, EntersNext, undone, redone, redone_in, Undoes, Redoes, Exchanges}
-use Rattle.commands.specs.Commands.{Spelled}
-use Rattle.commands.specs.declared.command.LineFault.{LineFault}
+use Rattle.stepper_commands.specs.Commands.{Spelled}
+use Rattle.stepper_commands.specs.declared.command.LineFault.{LineFault}
 use Rattle.stepper.specs.Replies.{Moves, move_without_memory, arrival_refused, arrives, forwarding_refused, forwards, turn_without_memory_named, turn_refused, turns, learning_refused, learns, Steps, step_done, step_refused, step_idle, step_without_memory, Runs, runs_out, runs_on, runs_last, Answers, arrive_moves, forward_moves, turn_moves, learn_without_memory, learn_refused, learn_accepted, stepped, runs, worked, work_refused, enabled_without_memory, enabled, ask_without_memory, asked_without_memory, asked_unread, ask_refused, ask_accepted, show_without_memory, shown, journal_without_memory, listed, log_without_memory, logged, cone_without_memory, cone_refused, cone_found, undo_without_memory, undo_refused, undo_accepted, undo_cone_without_memory, undo_cone_refused, undo_cone_found, redo_without_memory, redo_refused, redo_accepted, exchange_refused, exchange_accepted, settle_without_memory, settle_refused, settle_accepted, why_without_memory, why_refused, why_told, event_without_memory, event_refused, event_told, message_without_memory, message_refused, message_told, object_without_memory, object_refused, object_told, AnswersBirth, birth_without_memory, script_without_memory, script_refused, script_unread, birth_refused, birth_accepted, FirstReply, skipped, no_command, born, answered}
 use Rattle.stepper.specs.Laws.{IsTold, IsToldLine}
 use Rattle.stepper.proofs.VatNames.{run_names_vats_once}

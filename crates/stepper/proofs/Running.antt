@@ -3,12 +3,12 @@ use Rattle.std.proofs.Common.{◌≡◌, ◌<◌, ◌-◌, ℕ, zero, suc, Optio
 use Rattle.std.specs.Prelude.{Bool, codes}
 use Rattle.book.specs.Books.{Book}
 use Rattle.book.specs.BookView.{book_of}
-use Rattle.agenda.specs.declared.agenda.Step.{Step}
-use Rattle.commands.specs.Commands as commands
-use Rattle.scopes.specs.Words.{no_memory}
-use Rattle.streams.specs.Outlet.{is_cut, Gives, IsCutShort, Tells}
-use Rattle.streams.specs.declared.outlet.Outlet.{Outlet}
-use Rattle.streams.proofs.Giving.{tells_both, tells_as, tells_none, tells_more, was_open}
+use Rattle.book_agenda.specs.declared.agenda.Step.{Step}
+use Rattle.stepper_commands.specs.Commands as commands
+use Rattle.kernele_scopes.specs.Words.{no_memory}
+use Rattle.stepper_streams.specs.Outlet.{is_cut, Gives, IsCutShort, Tells}
+use Rattle.stepper_streams.specs.declared.outlet.Outlet.{Outlet}
+use Rattle.stepper_streams.proofs.Giving.{tells_both, tells_as, tells_none, tells_more, was_open}
 use Rattle.stepper.specs.declared.engine.Engine.{Engine}
 use Rattle.stepper.specs.declared.reply.Written.{Written}
 use Rattle.stepper.specs.Engine.{Happens, Moved}

@@ -13,13 +13,13 @@ use Rattle.ids.specs.declared.names.MsgId.{MsgId}
 use Rattle.ids.specs.declared.names.PromId.{PromId}
 use Rattle.ids.specs.declared.names.VatNo.{VatNo}
 use Rattle.kernele.specs.Tree.{Name, Trees}
-use Rattle.scopes.specs.Scope.{checked_program, script_scopes, asked_scopes}
+use Rattle.kernele_scopes.specs.Scope.{checked_program, script_scopes, asked_scopes}
 use Rattle.post.specs.Messages.{Vat}
-use Rattle.worldcells.specs.World.{World, vat_named, message_of}
+use Rattle.world_cells.specs.World.{World, vat_named, message_of}
 use Rattle.event.specs.Ready.{lost, early, place_of}
-use Rattle.agenda.specs.Agendas.{can_learn}
-use Rattle.agenda.specs.Enabled.{First, Enabled}
-use Rattle.agenda.specs.declared.agenda.Step.{Step}
+use Rattle.book_agenda.specs.Agendas.{can_learn}
+use Rattle.book_agenda.specs.Enabled.{First, Enabled}
+use Rattle.book_agenda.specs.declared.agenda.Step.{Step}
 use Rattle.desk.specs.Desks.{Lent, has_vat}
 use Rattle.journal.specs.Lines.{plain, Line, entries_in}
 use Rattle.journal.proofs.Reversed.{map-reverse, filter-reverse}

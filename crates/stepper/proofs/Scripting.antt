@@ -4,24 +4,24 @@ use Rattle.std.specs.Prelude.{IfOk}
 use Rattle.std.specs.Borrow.{Bor}
 use Rattle.std.specs.Io.KnownBytes.{Consumes}
 use Rattle.std.proofs.KnownBytes.{Consumes-nil, Consumes-trans, Consumes-kept}
-use Rattle.commands.specs.Lines.{line_of, behind_line}
-use Rattle.commands.specs.Commands.{is_empty}
-use Rattle.commands.specs.Scripts.{fault_in, fault_of, script_of, behind_lines, or_fault, unless}
+use Rattle.stepper_commands.specs.Lines.{line_of, behind_line}
+use Rattle.stepper_commands.specs.Commands.{is_empty}
+use Rattle.stepper_commands.specs.Scripts.{fault_in, fault_of, script_of, behind_lines, or_fault, unless}
 use Rattle.std.specs.declared.string.String.{String}
 use Rattle.std.specs.declared.alloc.Global.{Global}
-use Rattle.commands.specs.ScriptView.{fault_at, IsHeld, with_line}
-use Rattle.commands.specs.declared.command.LineFault.{LineFault}
-use Rattle.commands.specs.declared.command.LineFault.TheVariants.{Truncated}
-use Rattle.commands.proofs.ScriptLemmas.{Taken, taken_none, taken_more, truncated, added, behind_none, finished}
-use Rattle.streams.specs.Counted.{IsOneMore}
-use Rattle.streams.specs.Lines.{reads_failed, lines_taken, lines_refused, is_ended, unread, IsSound, TakesLine, HasNoLine}
-use Rattle.streams.specs.Outlet.{is_cut, Gives}
-use Rattle.streams.specs.Pieces.{HasNoFeed, Reads, IsOneLine, fed, last}
-use Rattle.streams.specs.declared.line.Line.{Line}
-use Rattle.streams.specs.declared.lines.Lines.{Lines}
-use Rattle.streams.specs.declared.outlet.Outlet.{Outlet}
-use Rattle.streams.proofs.Feeds.{behind_no_feed}
-use Rattle.streams.proofs.Giving.{gives_both, cut_behind}
+use Rattle.stepper_commands.specs.ScriptView.{fault_at, IsHeld, with_line}
+use Rattle.stepper_commands.specs.declared.command.LineFault.{LineFault}
+use Rattle.stepper_commands.specs.declared.command.LineFault.TheVariants.{Truncated}
+use Rattle.stepper_commands.proofs.ScriptLemmas.{Taken, taken_none, taken_more, truncated, added, behind_none, finished}
+use Rattle.stepper_streams.specs.Counted.{IsOneMore}
+use Rattle.stepper_streams.specs.Lines.{reads_failed, lines_taken, lines_refused, is_ended, unread, IsSound, TakesLine, HasNoLine}
+use Rattle.stepper_streams.specs.Outlet.{is_cut, Gives}
+use Rattle.stepper_streams.specs.Pieces.{HasNoFeed, Reads, IsOneLine, fed, last}
+use Rattle.stepper_streams.specs.declared.line.Line.{Line}
+use Rattle.stepper_streams.specs.declared.lines.Lines.{Lines}
+use Rattle.stepper_streams.specs.declared.outlet.Outlet.{Outlet}
+use Rattle.stepper_streams.proofs.Feeds.{behind_no_feed}
+use Rattle.stepper_streams.proofs.Giving.{gives_both, cut_behind}
 use Rattle.stepper.specs.Replies.{line_feeds}
 use Rattle.stepper.specs.Taking.{TakesScript, StopsAtLine, StopsWithin}
 use Rattle.stepper.specs.declared.fault.Fault.{Fault}

@@ -3,9 +3,9 @@ use Rattle.std.proofs.Common.{◌≡◌, ℕ, List, true, Option, Result, Ok, Er
 use Rattle.std.specs.declared.string.String.{String}
 use Rattle.std.specs.declared.alloc.Global.{Global}
 use Rattle.book.specs.Books.{Book}
-use Rattle.commands.specs.Commands.{fault_text}
-use Rattle.commands.specs.ScriptView.{IsHeld, IsScript}
-use Rattle.commands.specs.declared.command.LineFault.{LineFault}
+use Rattle.stepper_commands.specs.Commands.{fault_text}
+use Rattle.stepper_commands.specs.ScriptView.{IsHeld, IsScript}
+use Rattle.stepper_commands.specs.declared.command.LineFault.{LineFault}
 use Rattle.stepper.specs.Replies.{AnswersBirth, refused, script_refused}
 
 -- what holds of each text that may be held holds of the script

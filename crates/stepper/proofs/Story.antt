@@ -1,11 +1,11 @@
 -- Replies to commands, one after another, and what bytes of an input they are replies to.
 use Rattle.std.proofs.Common.{◌≡◌, ℕ, ◌+◌, ◌<◌, ◌≤◌, List, [], ◌∷◌, ◌++◌, length, Bool, true, false, ◌||◌, Option, Some, None, Result, Ok, Err, refl, sym, ap, subst, ◌∙◌, arith, append_assoc, append-nil}
 use Rattle.book.specs.Books.{Book, blank}
-use Rattle.commands.specs.Lines.{behind_line}
-use Rattle.commands.specs.Commands.{Spelled}
-use Rattle.commands.specs.declared.command.LineFault.{LineFault}
-use Rattle.streams.specs.Pieces.{IsOneLine, fed, last}
-use Rattle.streams.proofs.Feeds.{behind_no_feed}
+use Rattle.stepper_commands.specs.Lines.{behind_line}
+use Rattle.stepper_commands.specs.Commands.{Spelled}
+use Rattle.stepper_commands.specs.declared.command.LineFault.{LineFault}
+use Rattle.stepper_streams.specs.Pieces.{IsOneLine, fed, last}
+use Rattle.stepper_streams.proofs.Feeds.{behind_no_feed}
 use Rattle.stepper.specs.Replies.{FirstReply, Replies, no_more, first_and_more, RepliesBefore, none_yet, whole_and_more, RepliesToAll, whole_ones, with_last, IsWhole, said, script_lines, line_feeds}
 use Rattle.stepper.proofs.Answered.{or_or, or_false}
 use Rattle.stepper.proofs.Whole.{line_feeds-append, said_stays, behind_is_more, is_whole, is_not_whole, no_whole_line}

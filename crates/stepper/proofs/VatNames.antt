@@ -13,13 +13,13 @@ use Rattle.ids.proofs.CellKeys.{same_exact as key_exact}
 use Rattle.kernele.specs.Tree.{Name, Trees}
 use Rattle.heap.specs.State as heap
 use Rattle.heap.specs.State.{Cell, top, slot_cell, object_cell, view_cell, fence_cell}
-use Rattle.scopes.specs.Scope.{own_names_in}
+use Rattle.kernele_scopes.specs.Scope.{own_names_in}
 use Rattle.post.specs.Messages.{Vat, done, Message, Published}
-use Rattle.worldcells.specs.Events.{Act, birth, ask, arrive, forward, learn, turn, Event}
-use Rattle.worldcells.specs.World.{Content, vat, message, World, empty, vat_in, vat_named, cell_key}
+use Rattle.world_cells.specs.Events.{Act, birth, ask, arrive, forward, learn, turn, Event}
+use Rattle.world_cells.specs.World.{Content, vat, message, World, empty, vat_in, vat_named, cell_key}
 use Rattle.event.specs.Events.{events, in_world, letters_from, on_the_board, counted, Turn, made_by, births, asks, arrives, forwards, learns, turns}
-use Rattle.ordering.specs.Theorems.{HaveOwnNames}
-use Rattle.ordering.proofs.Written.{Passes, passed, all_pass}
+use Rattle.event_ordering.specs.Theorems.{HaveOwnNames}
+use Rattle.event_ordering.proofs.Written.{Passes, passed, all_pass}
 use Rattle.book.specs.Good.{NamesVatsOnce}
 
 -- a birth under this name; the birth of the vat of this number; one of these events is that

@@ -2,9 +2,9 @@
 use Rattle.std.specs.Prelude.{◌≡◌, ℕ, List, Bool, false, ◌||◌, not, Option}
 use Rattle.book.specs.Books as books
 use Rattle.book.specs.BookView.{book_of}
-use Rattle.agenda.specs.declared.agenda.Step.{Step}
-use Rattle.streams.specs.Outlet.{is_cut, Tells}
-use Rattle.streams.specs.declared.outlet.Outlet.{Outlet}
+use Rattle.book_agenda.specs.declared.agenda.Step.{Step}
+use Rattle.stepper_streams.specs.Outlet.{is_cut, Tells}
+use Rattle.stepper_streams.specs.declared.outlet.Outlet.{Outlet}
 use Rattle.stepper.specs.Replies.{Moves}
 use Rattle.stepper.specs.declared.engine.Engine.{Engine}
 

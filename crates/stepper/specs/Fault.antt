@@ -1,7 +1,7 @@
 -- What is said of a run that was cut short.
 use Rattle.std.specs.Prelude.{ℕ, List, codes}
-use Rattle.streams.specs.declared.lines.TakeFault.{TakeFault}
-use Rattle.streams.specs.declared.lines.TakeFault.TheVariants as take
+use Rattle.stepper_streams.specs.declared.lines.TakeFault.{TakeFault}
+use Rattle.stepper_streams.specs.declared.lines.TakeFault.TheVariants as take
 use Rattle.stepper.specs.declared.fault.Fault.{Fault}
 use Rattle.stepper.specs.declared.fault.Fault.TheVariants.{Reader, Writer, Memory}
 

@@ -4,14 +4,14 @@ use Rattle.std.specs.Prelude.{◌≡◌, ℕ, List, [], ◌∷◌, ◌++◌, Boo
 use Rattle.history.specs.Subject.{touches, new}
 use Rattle.ids.specs.declared.cells.CellKey.{CellKey}
 use Rattle.ereader.specs.Shown as reading
-use Rattle.scopes.specs.Words.{no_memory}
+use Rattle.kernele_scopes.specs.Words.{no_memory}
 use Rattle.ereader.specs.declared.fault.ReadFault.TheVariants as read_fault
 use Rattle.journal.specs.Lines.{plain, Line}
 use Rattle.book.specs.Books.{Book, blank}
 use Rattle.book.specs.Good.{IsGood}
-use Rattle.commands.specs.Commands as command
-use Rattle.commands.specs.Commands.{Spelled}
-use Rattle.commands.specs.declared.command.LineFault.{LineFault}
+use Rattle.stepper_commands.specs.Commands as command
+use Rattle.stepper_commands.specs.Commands.{Spelled}
+use Rattle.stepper_commands.specs.declared.command.LineFault.{LineFault}
 use Rattle.stepper.specs.Replies.{refused, Answers, AnswersBirth, said, Replies, no_more, first_and_more, RepliesBefore}
 use Rattle.stepper.specs.declared.engine.Limits.{Limits}
 

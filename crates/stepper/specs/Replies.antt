@@ -9,20 +9,20 @@ use Rattle.ids.specs.declared.names.PromId.{PromId}
 use Rattle.ids.specs.declared.names.VatNo.{VatNo}
 use Rattle.kernele.specs.Tree.{Trees}
 use Rattle.values.specs.Shown as values
-use Rattle.erules.specs.Outcomes.{reason}
-use Rattle.deliveries.specs.Turn.{Told, told, lost}
+use Rattle.eval_rules.specs.Outcomes.{reason}
+use Rattle.turn_deliveries.specs.Turn.{Told, told, lost}
 use Rattle.values.specs.Data.{gives, throws}
 use Rattle.ereader.specs.Texts.{ReadAs}
 use Rattle.ereader.specs.Shown as reading
 use Rattle.ereader.specs.declared.fault.ReadFault.TheVariants as read_fault
-use Rattle.scopes.specs.Words.{no_memory}
+use Rattle.kernele_scopes.specs.Words.{no_memory}
 use Rattle.ereader.specs.declared.fault.ReadFault.{ReadFault}
 use Rattle.post.specs.Messages.{Vat}
-use Rattle.worldcells.specs.Events.{birth, ask, arrive, forward, learn}
+use Rattle.world_cells.specs.Events.{birth, ask, arrive, forward, learn}
 use Rattle.event.specs.Events.{Foot, Turn, birth_foot, ask_foot, first_message}
-use Rattle.agenda.specs.Enabled.{Enabled, First}
-use Rattle.agenda.specs.declared.agenda.Step.{Step}
-use Rattle.agenda.specs.declared.agenda.Step.TheVariants as step
+use Rattle.book_agenda.specs.Enabled.{Enabled, First}
+use Rattle.book_agenda.specs.declared.agenda.Step.{Step}
+use Rattle.book_agenda.specs.declared.agenda.Step.TheVariants as step
 use Rattle.desk.specs.Desks.{has_vat}
 use Rattle.journal.specs.Lines.{Line}
 use Rattle.causality.specs.Exact.{Cone}
@@ -33,26 +33,26 @@ use Rattle.book.specs.Refusals.{birth_refusal, ask_refusal, arrival_refusal, for
 use Rattle.book.specs.Learning.{LearnsNamed, RefusesNamed}
 use Rattle.book.specs.Books.{Book, blank, settled_lines, open_lines}
 use Rattle.book.specs.Calls.{EntersNext, TurnsNext, Undoes, Redoes, Exchanges, Settles, StoodAt}
-use Rattle.commands.specs.Lines.{is_line_feed, line_end, line_of, behind_line}
-use Rattle.commands.specs.declared.numbers.PromiseName.{PromiseName}
-use Rattle.commands.specs.Commands as command
-use Rattle.commands.specs.Commands.{Spelled, spelled_by, fault_text}
-use Rattle.commands.specs.Scripts.{fault_of, script_of, behind_lines}
-use Rattle.printing.specs.Show.{Shows}
+use Rattle.stepper_commands.specs.Lines.{is_line_feed, line_end, line_of, behind_line}
+use Rattle.stepper_commands.specs.declared.numbers.PromiseName.{PromiseName}
+use Rattle.stepper_commands.specs.Commands as command
+use Rattle.stepper_commands.specs.Commands.{Spelled, spelled_by, fault_text}
+use Rattle.stepper_commands.specs.Scripts.{fault_of, script_of, behind_lines}
+use Rattle.stepper_printing.specs.Show.{Shows}
 use Rattle.causewaylog.specs.Turns.{live_in}
 use Rattle.causewaylog.specs.Log.{log_text}
-use Rattle.printing.specs.Listing.{journal_text, cone_text}
-use Rattle.printing.specs.Steps.{ShowsEnabled}
-use Rattle.commands.specs.declared.command.LineFault.{LineFault}
-use Rattle.crew.specs.Work.{Worked, RefusesWork}
-use Rattle.commands.specs.declared.numbers.ObjectName.{ObjectName}
-use Rattle.questions.specs.Deliveries.{MessageTold, message_refusal}
-use Rattle.questions.specs.Events.{EventTold}
-use Rattle.questions.specs.Objects.{ObjectTold, NoObject}
-use Rattle.questions.specs.Refusals.{pair_refusal, event_refusal, unanswered_text}
-use Rattle.questions.specs.Why.{Why}
-use Rattle.questions.specs.declared.unanswered.Unanswered.{Unanswered}
-use Rattle.questions.specs.declared.unanswered.Unanswered.TheVariants as unanswered
+use Rattle.stepper_printing.specs.Listing.{journal_text, cone_text}
+use Rattle.stepper_printing.specs.Steps.{ShowsEnabled}
+use Rattle.stepper_commands.specs.declared.command.LineFault.{LineFault}
+use Rattle.book_crew.specs.Work.{Worked, RefusesWork}
+use Rattle.stepper_commands.specs.declared.numbers.ObjectName.{ObjectName}
+use Rattle.stepper_questions.specs.Deliveries.{MessageTold, message_refusal}
+use Rattle.stepper_questions.specs.Events.{EventTold}
+use Rattle.stepper_questions.specs.Objects.{ObjectTold, NoObject}
+use Rattle.stepper_questions.specs.Refusals.{pair_refusal, event_refusal, unanswered_text}
+use Rattle.stepper_questions.specs.Why.{Why}
+use Rattle.stepper_questions.specs.declared.unanswered.Unanswered.{Unanswered}
+use Rattle.stepper_questions.specs.declared.unanswered.Unanswered.TheVariants as unanswered
 use Rattle.book.specs.declared.fault.WorkFault.{WorkFault}
 use Rattle.stepper.specs.declared.engine.Limits.{Limits}
 

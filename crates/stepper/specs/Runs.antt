@@ -2,11 +2,11 @@
 use Rattle.std.specs.Prelude.{◌≡◌, ℕ, List, [], ◌++◌, Bool, Option}
 use Rattle.std.specs.Io.KnownBytes.{Consumes, IsAtEnd}
 use Rattle.book.specs.Books.{Book, blank}
-use Rattle.streams.specs.Counted.{IsOneMore}
-use Rattle.streams.specs.Lines.{held, reads_failed, lines_refused, unread}
-use Rattle.streams.specs.Outlet.{Gives, IsCutShort}
-use Rattle.streams.specs.declared.lines.Lines.{Lines}
-use Rattle.streams.specs.declared.outlet.Outlet.{Outlet}
+use Rattle.stepper_streams.specs.Counted.{IsOneMore}
+use Rattle.stepper_streams.specs.Lines.{held, reads_failed, lines_refused, unread}
+use Rattle.stepper_streams.specs.Outlet.{Gives, IsCutShort}
+use Rattle.stepper_streams.specs.declared.lines.Lines.{Lines}
+use Rattle.stepper_streams.specs.declared.outlet.Outlet.{Outlet}
 use Rattle.stepper.specs.Replies.{Replies, RepliesBefore, RepliesToAll, IsWhole}
 use Rattle.stepper.specs.declared.fault.Fault.{Fault}
 use Rattle.stepper.specs.declared.fault.Fault.TheVariants.{Reader, Writer, Memory}

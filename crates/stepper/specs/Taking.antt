@@ -5,16 +5,16 @@ use Rattle.std.specs.declared.string.String.{String}
 use Rattle.std.specs.declared.alloc.Global.{Global}
 use Rattle.book.specs.Books.{Book}
 use Rattle.book.specs.BookView.{book_of}
-use Rattle.commands.specs.Commands.{Spelled}
-use Rattle.commands.specs.Lines.{behind_line}
-use Rattle.commands.specs.Scripts.{script_of, behind_lines}
-use Rattle.commands.specs.ScriptView.{IsScript}
-use Rattle.commands.specs.declared.command.LineFault.{LineFault}
-use Rattle.streams.specs.Counted.{IsOneMore}
-use Rattle.streams.specs.Lines.{held, reads_failed, lines_taken, lines_refused, is_ended, unread, IsSound, FailsWithin, RunsOut}
-use Rattle.streams.specs.Outlet.{is_cut, Gives, IsCutShort, Tells}
-use Rattle.streams.specs.declared.lines.Lines.{Lines}
-use Rattle.streams.specs.declared.outlet.Outlet.{Outlet}
+use Rattle.stepper_commands.specs.Commands.{Spelled}
+use Rattle.stepper_commands.specs.Lines.{behind_line}
+use Rattle.stepper_commands.specs.Scripts.{script_of, behind_lines}
+use Rattle.stepper_commands.specs.ScriptView.{IsScript}
+use Rattle.stepper_commands.specs.declared.command.LineFault.{LineFault}
+use Rattle.stepper_streams.specs.Counted.{IsOneMore}
+use Rattle.stepper_streams.specs.Lines.{held, reads_failed, lines_taken, lines_refused, is_ended, unread, IsSound, FailsWithin, RunsOut}
+use Rattle.stepper_streams.specs.Outlet.{is_cut, Gives, IsCutShort, Tells}
+use Rattle.stepper_streams.specs.declared.lines.Lines.{Lines}
+use Rattle.stepper_streams.specs.declared.outlet.Outlet.{Outlet}
 use Rattle.stepper.specs.Replies.{said, FirstReply, IsWhole, script_lines, line_feeds}
 use Rattle.stepper.specs.Engine.{Happens}
 use Rattle.stepper.specs.declared.engine.Engine.{Engine}

@@ -1,6 +1,6 @@
 -- The faults of a program's check in words.
 use Rattle.std.specs.Prelude.{ℕ, List}
-use Rattle.scopes.specs.declared.checking.CheckFault.{CheckFault}
+use Rattle.kernele_scopes.specs.declared.checking.CheckFault.{CheckFault}
 use Rattle.book.specs.declared.fault.BookFault.TheVariants.{Check}
 use Rattle.book.specs.Fault.{fault_text}
 

@@ -1,7 +1,7 @@
 -- What a refusal does.
 use Rattle.std.specs.Prelude.{◌≡◌, ℕ, List, Bool, ◌||◌, Option}
-use Rattle.streams.specs.Outlet.{Tells}
-use Rattle.streams.specs.declared.outlet.Outlet.{Outlet}
+use Rattle.stepper_streams.specs.Outlet.{Tells}
+use Rattle.stepper_streams.specs.declared.outlet.Outlet.{Outlet}
 use Rattle.stepper.specs.declared.reply.Written.{Written}
 
 -- this reply is given, a refusal or not

@@ -5,8 +5,8 @@ ghost use Rattle.stepper.specs.declared.fault.Fault.TheVariants.{Writer};
 
 use std::fmt;
 use std::fmt::{Debug, Display, Formatter, Write};
-use streams::lines::TakeFault;
-use streams::outlet::WriteFailed;
+use stepper_streams::lines::TakeFault;
+use stepper_streams::outlet::WriteFailed;
 use thiserror::Error;
 
 /// Why a run did not come to its end.

@@ -1,17 +1,17 @@
 // Lines on their way to the engine: before each read the replies so far go out.
 ghost use Rattle.std.specs.Prelude.{◌≡◌, IfOk, IfErr, OnOk, MatchResult, MatchOption, Ok, [], true, false};
-ghost use Rattle.streams.specs.Lines.{IsSound, is_at_hand, lines_taken, lines_refused, CountsTaken, ReadsNothing, TakesLine, HasNoLine};
-ghost use Rattle.streams.specs.Outlet.{waiting, is_cut, Gives};
+ghost use Rattle.stepper_streams.specs.Lines.{IsSound, is_at_hand, lines_taken, lines_refused, CountsTaken, ReadsNothing, TakesLine, HasNoLine};
+ghost use Rattle.stepper_streams.specs.Outlet.{waiting, is_cut, Gives};
 ghost use Rattle.stepper.specs.Taking.{StopsAtLine, StopsWithin, TakesHeld};
 
 use crate::fault::Fault;
-use commands::command::LineFault;
-use commands::script::{Joined, text_of};
 use std::alloc::Global;
 use std::io::{Read, Write};
-use streams::line::Line;
-use streams::lines::Lines;
-use streams::outlet::Outlet;
+use stepper_commands::command::LineFault;
+use stepper_commands::script::{Joined, text_of};
+use stepper_streams::line::Line;
+use stepper_streams::lines::Lines;
+use stepper_streams::outlet::Outlet;
 
 /// Takes the next line. Where that may need a read, all replies so far are sent first.
 pub(crate) fn next_line<R: Read, W: Write>(

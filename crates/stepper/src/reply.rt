@@ -5,26 +5,26 @@ ghost use Rattle.values.specs.Shown as values;
 ghost use Rattle.values.specs.View.{val_of};
 ghost use Rattle.ereader.specs.Shown.{shown};
 ghost use Rattle.book.specs.Fault as book_fault;
-ghost use Rattle.deliveries.specs.Outcomes.{told_of};
-ghost use Rattle.commands.specs.Commands.{fault_text};
-ghost use Rattle.questions.specs.Refusals.{unanswered_text};
+ghost use Rattle.turn_deliveries.specs.Outcomes.{told_of};
+ghost use Rattle.stepper_commands.specs.Commands.{fault_text};
+ghost use Rattle.stepper_questions.specs.Refusals.{unanswered_text};
 ghost use Rattle.stepper.specs.Replies.{refused, queued_text, done_text, idle_text, turned_text, told_text, undone_text, redone_text, exchanged_text, settled_text, worked_text, logged_text};
-ghost use Rattle.streams.specs.Outlet.{Tells};
+ghost use Rattle.stepper_streams.specs.Outlet.{Tells};
 
 use crate::words::{
     put_book_fault, put_line_fault, put_read_fault, put_unanswered, put_work_fault,
 };
 use book::fault::{BookFault, WorkFault};
-use commands::command::LineFault;
-use deliveries::outcome::Ended;
 use ereader::fault::ReadFault;
 use ids::names::{EventName, MsgId};
-use printing::names::{put_event, put_message};
-use printing::quoting::put_quoted;
-use printing::value::put_value;
-use questions::unanswered::Unanswered;
 use std::io::Write;
-use streams::outlet::Outlet;
+use stepper_commands::command::LineFault;
+use stepper_printing::names::{put_event, put_message};
+use stepper_printing::quoting::put_quoted;
+use stepper_printing::value::put_value;
+use stepper_questions::unanswered::Unanswered;
+use stepper_streams::outlet::Outlet;
+use turn_deliveries::outcome::Ended;
 use values::value::Value;
 
 /// What is kept of the replies.

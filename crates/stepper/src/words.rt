@@ -3,22 +3,22 @@ ghost use Rattle.std.specs.Prelude.{◌++◌, codes};
 ghost use Rattle.std.specs.Fmt.{decimal};
 ghost use Rattle.ids.specs.Names.{event_text, message_text};
 ghost use Rattle.ereader.specs.Shown.{shown};
-ghost use Rattle.commands.specs.Commands.{fault_text};
+ghost use Rattle.stepper_commands.specs.Commands.{fault_text};
 ghost use Rattle.book.specs.Fault as book_fault;
 ghost use Rattle.book.specs.Fault.{pair_text};
-ghost use Rattle.questions.specs.Refusals.{unanswered_text};
+ghost use Rattle.stepper_questions.specs.Refusals.{unanswered_text};
 ghost use Rattle.stepper.specs.Words.{check_text};
-ghost use Rattle.streams.specs.Outlet.{Tells};
+ghost use Rattle.stepper_streams.specs.Outlet.{Tells};
 
 use book::fault::{BookFault, WorkFault};
-use commands::command::LineFault;
 use ereader::fault::ReadFault;
 use ids::names::{EventName, MsgId};
-use printing::names::{put_event, put_message};
-use questions::unanswered::Unanswered;
-use scopes::CheckFault;
+use kernele_scopes::CheckFault;
 use std::io::Write;
-use streams::outlet::Outlet;
+use stepper_commands::command::LineFault;
+use stepper_printing::names::{put_event, put_message};
+use stepper_questions::unanswered::Unanswered;
+use stepper_streams::outlet::Outlet;
 
 fn put_about<W: Write>(words: &str, name: &str, out: &mut Outlet<W>)
     ensures { Tells W.contents out.old out.new (words.now ++ name.now) }

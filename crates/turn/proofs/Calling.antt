@@ -10,14 +10,14 @@ use Rattle.values.specs.declared.value.Value.{Value}
 use Rattle.heap.specs.State.{Nouns, Cell, Content, same_cell}
 use Rattle.post.specs.Delivery.{Call}
 use Rattle.sends.specs.Vats.{Vat}
-use Rattle.erules.specs.At.{At}
-use Rattle.erules.specs.Doings.{behind, under, with_under}
-use Rattle.erules.specs.Outcomes.{End, values}
-use Rattle.erules.specs.Rules.{Target, enters, called, inside, target_of, Items}
-use Rattle.eobjects.specs.View as view
-use Rattle.eobjects.specs.View.{Comes, gave, used}
-use Rattle.deliveries.specs.Turn.{Found, Led, led_gives, led_uses, led_enters, call_coming, call_met, call_meeting}
-use Rattle.deliveries.proofs.Coming.{led_from}
+use Rattle.eval_rules.specs.At.{At}
+use Rattle.eval_rules.specs.Doings.{behind, under, with_under}
+use Rattle.eval_rules.specs.Outcomes.{End, values}
+use Rattle.eval_rules.specs.Rules.{Target, enters, called, inside, target_of, Items}
+use Rattle.eval_objects.specs.View as view
+use Rattle.eval_objects.specs.View.{Comes, gave, used}
+use Rattle.turn_deliveries.specs.Turn.{Found, Led, led_gives, led_uses, led_enters, call_coming, call_met, call_meeting}
+use Rattle.turn_deliveries.proofs.Coming.{led_from}
 
 -- first this is done, and then that, whatever the first gives
 pub behind_both : {A B : Type 0} (d : Vat A) (g : Vat B) (a : At) → behind (and_then d (λ n. g)) a ≡ behind g (behind d a)

@@ -2,14 +2,14 @@
 use Rattle.std.proofs.Common.{◌≡◌, ℕ, List, [], false, sym, subst}
 use Rattle.code.specs.Frames.{fits_all}
 use Rattle.code.specs.declared.code.Code.{Code}
-use Rattle.erules.specs.Fits.{all_fit_at}
+use Rattle.eval_rules.specs.Fits.{all_fit_at}
 use Rattle.ids.specs.declared.names.EventName.{EventName}
 use Rattle.ids.specs.declared.names.VatNo.{VatNo}
 use Rattle.heap.specs.State.{State, frame_of}
-use Rattle.erules.specs.At.{At}
-use Rattle.erules.specs.Outcomes.{End}
+use Rattle.eval_rules.specs.At.{At}
+use Rattle.eval_rules.specs.Outcomes.{End}
 use Rattle.post.specs.Delivery.{Delivery, opening, asked, sent, waiting}
-use Rattle.deliveries.specs.Turn.{Found, start, Begins, opens, asks, calls, waits}
+use Rattle.turn_deliveries.specs.Turn.{Found, start, Begins, opens, asks, calls, waits}
 use Rattle.turn.specs.Runs.{Does, is_opening}
 
 begins : (d : Delivery) {f : Found} {e : EventName} {v : VatNo} {s : State} {n : ℕ} {o : End} {b : At} → Does d f (start (is_opening d) e v s n) o b → Begins d f e v s n o b

@@ -9,11 +9,11 @@ use Rattle.heap.specs.State.{Bind, fixed, frame_of}
 use Rattle.values.specs.Data.{promise}
 use Rattle.post.specs.declared.earlier.Earlier.{Earlier}
 use Rattle.sends.specs.Vats.{comes_in}
-use Rattle.erules.specs.At.{At}
-use Rattle.erules.specs.Doings.{behind}
-use Rattle.erules.specs.Fits.{all_fit_at}
-use Rattle.erules.specs.Rules.{bound_in}
-use Rattle.deliveries.specs.Turn.{knowing}
+use Rattle.eval_rules.specs.At.{At}
+use Rattle.eval_rules.specs.Doings.{behind}
+use Rattle.eval_rules.specs.Fits.{all_fit_at}
+use Rattle.eval_rules.specs.Rules.{bound_in}
+use Rattle.turn_deliveries.specs.Turn.{knowing}
 
 -- one more vat is known
 pub known_more : (xs : List Earlier) (a : At) {i : ℕ} {x : Earlier} {b : At} → i < length xs → x ≡ get_or xs i x → b ≡ knowing (x ∷ []) a → knowing (drop (i + 1) xs) b ≡ knowing (drop i xs) a

@@ -7,22 +7,22 @@ use Rattle.ids.specs.declared.names.VatNo.{VatNo}
 use Rattle.heap.specs.State.{Cell, Content, State, Cells}
 use Rattle.heap.specs.Found.{Found as FoundCells, touch_in, touched_in, writes_in, left_by}
 use Rattle.heap.specs.declared.reach.Footprint.{Footprint}
-use Rattle.erules.specs.At.{At}
-use Rattle.erules.specs.Laws.{AgreeOn, with_cells}
-use Rattle.erules.specs.Outbox.{Outbox}
-use Rattle.erules.specs.Outcomes.{End, value, halt}
+use Rattle.eval_rules.specs.At.{At}
+use Rattle.eval_rules.specs.Laws.{AgreeOn, with_cells}
+use Rattle.eval_rules.specs.Outbox.{Outbox}
+use Rattle.eval_rules.specs.Outcomes.{End, value, halt}
 use Rattle.post.specs.Messages.{Message}
 use Rattle.std.specs.Arc.{arc_value}
 use Rattle.post.specs.DeliveryView.{delivery_of}
 use Rattle.post.specs.MessageView.{message_of}
 use Rattle.post.specs.declared.message.Message as code-message
 use Rattle.post.specs.declared.message.Sent.{Sent}
-use Rattle.deliveries.specs.Turn.{start, Found, Told, told, lost, Outcome, Begins, Delivers, delivers, telling, telling_at, ending_at, finish, outcome, outcome_by}
-use Rattle.deliveries.specs.Touched.{delivery_touched, delivery_written}
-use Rattle.deliveries.specs.Outcomes.{kept, outcome_on, told_of, written_by, Meets}
-use Rattle.deliveries.specs.declared.outcome.Outcome as code-outcome
-use Rattle.deliveries.proofs.Begun.{begun_later}
-use Rattle.deliveries.proofs.Turns.{delivery_framed, delivery_within}
+use Rattle.turn_deliveries.specs.Turn.{start, Found, Told, told, lost, Outcome, Begins, Delivers, delivers, telling, telling_at, ending_at, finish, outcome, outcome_by}
+use Rattle.turn_deliveries.specs.Touched.{delivery_touched, delivery_written}
+use Rattle.turn_deliveries.specs.Outcomes.{kept, outcome_on, told_of, written_by, Meets}
+use Rattle.turn_deliveries.specs.declared.outcome.Outcome as code-outcome
+use Rattle.turn_deliveries.proofs.Begun.{begun_later}
+use Rattle.turn_deliveries.proofs.Turns.{delivery_framed, delivery_within}
 use Rattle.turn.specs.Runs.{Does, RunsTo, is_opening}
 use Rattle.turn.proofs.Deliveries.{begins_at}
 

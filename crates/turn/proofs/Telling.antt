@@ -12,19 +12,19 @@ use Rattle.heap.proofs.Drafting.{draft_as_written}
 use Rattle.sends.specs.Vats.{settled}
 use Rattle.sends.specs.Making.{Published, ending}
 use Rattle.sends.specs.Playing.{Did, IsSameTurn}
-use Rattle.emessages.proofs.Behind.{with_draft, did_give, did_leave}
-use Rattle.erules.specs.At.{At}
-use Rattle.erules.specs.Doings.{behind, given_by, published_out}
-use Rattle.erules.specs.Outcomes.{Cause, value, halt}
-use Rattle.erules.specs.OutboxView.{outbox_of}
-use Rattle.erules.specs.View.{at, cause_of, halt_of}
-use Rattle.erules.specs.declared.end.Abandon.{Abandon}
-use Rattle.erules.specs.declared.end.Halt as code
-use Rattle.erules.specs.declared.end.Halt.TheVariants as code-halt
-use Rattle.erules.specs.declared.working.Working.{Working}
-use Rattle.deliveries.specs.Outcomes.{told_of}
-use Rattle.deliveries.specs.Turn.{told, lost, commented, lost_outbox, settled_reply}
-use Rattle.deliveries.specs.declared.outcome.Outcome.{Outcome}
+use Rattle.eval_messages.proofs.Behind.{with_draft, did_give, did_leave}
+use Rattle.eval_rules.specs.At.{At}
+use Rattle.eval_rules.specs.Doings.{behind, given_by, published_out}
+use Rattle.eval_rules.specs.Outcomes.{Cause, value, halt}
+use Rattle.eval_rules.specs.OutboxView.{outbox_of}
+use Rattle.eval_rules.specs.View.{at, cause_of, halt_of}
+use Rattle.eval_rules.specs.declared.end.Abandon.{Abandon}
+use Rattle.eval_rules.specs.declared.end.Halt as code
+use Rattle.eval_rules.specs.declared.end.Halt.TheVariants as code-halt
+use Rattle.eval_rules.specs.declared.working.Working.{Working}
+use Rattle.turn_deliveries.specs.Outcomes.{told_of}
+use Rattle.turn_deliveries.specs.Turn.{told, lost, commented, lost_outbox, settled_reply}
+use Rattle.turn_deliveries.specs.declared.outcome.Outcome.{Outcome}
 use Rattle.turn.specs.Runs.{Leaves, RunsTo}
 
 -- a reply was told, and published

@@ -5,19 +5,19 @@ use Rattle.kernele.specs.declared.tree.Pattern.{Pattern}
 use Rattle.kernele.specs.declared.tree.Pattern.TheVariants as pattern
 use Rattle.code.specs.Frames.{fits_all, only_names}
 use Rattle.code.specs.declared.code.Code.{Code}
-use Rattle.scopes.specs.Scope.{name_of}
+use Rattle.kernele_scopes.specs.Scope.{name_of}
 use Rattle.values.specs.Data.{null, text}
 use Rattle.heap.specs.Names.{names_of}
 use Rattle.heap.specs.View.{nouns_of}
 use Rattle.heap.specs.State.{Nouns, frame_of}
 use Rattle.heap.specs.declared.state.Noun.{Noun}
 use Rattle.heap.proofs.Names.{frame_of_nouns}
-use Rattle.erules.specs.At.{At}
-use Rattle.erules.specs.Fits.{all_fit_at}
-use Rattle.erules.specs.Outcomes.{End, Halt, halt, thrown}
-use Rattle.erules.specs.Rules.{Items, enters, gives, inside, matched, named, Target}
-use Rattle.deliveries.specs.Turn.{Led, led_enters, led_gives}
-use Rattle.deliveries.proofs.Coming.{led_from}
+use Rattle.eval_rules.specs.At.{At}
+use Rattle.eval_rules.specs.Fits.{all_fit_at}
+use Rattle.eval_rules.specs.Outcomes.{End, Halt, halt, thrown}
+use Rattle.eval_rules.specs.Rules.{Items, enters, gives, inside, matched, named, Target}
+use Rattle.turn_deliveries.specs.Turn.{Led, led_enters, led_gives}
+use Rattle.turn_deliveries.proofs.Coming.{led_from}
 
 -- a block fits the names that were captured
 pub captured_fits : (cs : List Noun) (a b : At) {ds es : List Code} → b ≡ inside (nouns_of cs) a → ds ≡ es → fits_all false (names_of cs) es → all_fit_at b ds

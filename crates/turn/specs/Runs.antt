@@ -7,16 +7,16 @@ use Rattle.heap.specs.Drafts.{began_with, touched_of, writes_of}
 use Rattle.heap.specs.Found.{Found as FoundCells, touched_in, writes_in}
 use Rattle.post.specs.Delivery.{Delivery, opening, asked, sent, waiting}
 use Rattle.sends.specs.Vats.{ended}
-use Rattle.erules.specs.At.{At}
-use Rattle.erules.specs.Doings.{given_by, behind}
-use Rattle.erules.specs.Outcomes.{End}
-use Rattle.erules.specs.OutboxView.{outbox_of}
-use Rattle.erules.specs.Rules.{Items}
-use Rattle.erules.specs.declared.working.Working.{Working}
-use Rattle.deliveries.specs.Outcomes.{told_of, written_by}
-use Rattle.deliveries.specs.Turn.{Found, Led, Told, knowing, call_met, call_meeting, when_met, telling, telling_at, ending_at, outcome_by}
-use Rattle.deliveries.specs.declared.outcome.Ended.{Ended}
-use Rattle.deliveries.specs.declared.outcome.Outcome.{Outcome}
+use Rattle.eval_rules.specs.At.{At}
+use Rattle.eval_rules.specs.Doings.{given_by, behind}
+use Rattle.eval_rules.specs.Outcomes.{End}
+use Rattle.eval_rules.specs.OutboxView.{outbox_of}
+use Rattle.eval_rules.specs.Rules.{Items}
+use Rattle.eval_rules.specs.declared.working.Working.{Working}
+use Rattle.turn_deliveries.specs.Outcomes.{told_of, written_by}
+use Rattle.turn_deliveries.specs.Turn.{Found, Led, Told, knowing, call_met, call_meeting, when_met, telling, telling_at, ending_at, outcome_by}
+use Rattle.turn_deliveries.specs.declared.outcome.Ended.{Ended}
+use Rattle.turn_deliveries.specs.declared.outcome.Outcome.{Outcome}
 
 -- a script is evaluated in the vat's own scope
 abbrev pub is_opening : Delivery → Bool

@@ -5,23 +5,23 @@ ghost use Rattle.values.specs.Data.{null};
 ghost use Rattle.values.specs.View.{vals_of};
 ghost use Rattle.heap.specs.View.{nouns_of};
 ghost use Rattle.post.specs.DeliveryView.{call_of};
-ghost use Rattle.erules.specs.Answered.{OnEnd};
-ghost use Rattle.erules.specs.Doings.{behind};
-ghost use Rattle.erules.specs.Locals.{captured_in, locals_after};
-ghost use Rattle.erules.specs.Rules.{Items, inside};
-ghost use Rattle.erules.specs.View.{at};
-ghost use Rattle.deliveries.specs.Outcomes.{found_of};
-ghost use Rattle.deliveries.specs.Turn.{Led, call_coming, call_meeting, call_met, list_coming};
+ghost use Rattle.eval_rules.specs.Answered.{OnEnd};
+ghost use Rattle.eval_rules.specs.Doings.{behind};
+ghost use Rattle.eval_rules.specs.Locals.{captured_in, locals_after};
+ghost use Rattle.eval_rules.specs.Rules.{Items, inside};
+ghost use Rattle.eval_rules.specs.View.{at};
+ghost use Rattle.turn_deliveries.specs.Outcomes.{found_of};
+ghost use Rattle.turn_deliveries.specs.Turn.{Led, call_coming, call_meeting, call_met, list_coming};
 
-use deliveries::lead::Lead;
-use eobjects::calls::{call_target, enter_method};
-use erules::end::Stop;
-use erules::entry::Entry;
-use erules::working::Working;
 use eval::eval::eval_items;
+use eval_objects::calls::{call_target, enter_method};
+use eval_rules::end::Stop;
+use eval_rules::entry::Entry;
+use eval_rules::working::Working;
 use post::call::Call;
 use sends::coming::{receive, receive_all};
 use std::alloc::{AllocError, Global};
+use turn_deliveries::lead::Lead;
 use values::value::Value;
 
 /// Makes a call that was sent on the end of its target. Its arguments come in first, and then a list that it is made on.

@@ -1,26 +1,26 @@
 // How turns end.
 ghost use Rattle.std.specs.Prelude.{◌≡◌, ◌∷◌, [], IfOk, OnOk, option_map};
 ghost use Rattle.values.specs.View.{reply_of, val_of};
-ghost use Rattle.erules.specs.Doings.{noted, published_out};
-ghost use Rattle.erules.specs.Outcomes.{halt, value as value_end};
-ghost use Rattle.erules.specs.OutboxView.{note_of, outbox_of};
-ghost use Rattle.erules.specs.View.{at, cause_of, halt_of};
+ghost use Rattle.eval_rules.specs.Doings.{noted, published_out};
+ghost use Rattle.eval_rules.specs.Outcomes.{halt, value as value_end};
+ghost use Rattle.eval_rules.specs.OutboxView.{note_of, outbox_of};
+ghost use Rattle.eval_rules.specs.View.{at, cause_of, halt_of};
 ghost use Rattle.sends.specs.View.{published_of};
-ghost use Rattle.deliveries.specs.Outcomes.{told_of};
-ghost use Rattle.deliveries.specs.Turn.{commented, lost, lost_outbox, settled_reply, told as told_reply};
+ghost use Rattle.turn_deliveries.specs.Outcomes.{told_of};
+ghost use Rattle.turn_deliveries.specs.Turn.{commented, lost, lost_outbox, settled_reply, told as told_reply};
 ghost use Rattle.turn.specs.Runs.{LeavesAtEnd, RunsToEnd};
 
-use deliveries::outcome::Ended;
 use eorder::carried::Carried;
-use erules::end::{Abandon, Halt};
-use erules::outbox::{Note, Outbox};
-use erules::working::Working;
+use eval_rules::end::{Abandon, Halt};
+use eval_rules::outbox::{Note, Outbox};
+use eval_rules::working::Working;
 use ids::names::PromId;
 use ids::text::Text;
 use post::published::Published;
 use sends::ends::settle;
 use sends::publishing::{Resolved, end_with};
 use std::alloc::{AllocError, Global};
+use turn_deliveries::outcome::Ended;
 use values::value::{Answer, Value};
 
 /// Ends a turn whose delivery gave this value: its settled form is published.

@@ -5,17 +5,17 @@ ghost use Rattle.heap.specs.Found.{Found};
 ghost use Rattle.turn.specs.Tasks.{task_of};
 ghost use Rattle.heap.specs.View.{state_of};
 ghost use Rattle.post.specs.MessageView.{message_of};
-ghost use Rattle.deliveries.specs.Outcomes.{Meets, found_of};
+ghost use Rattle.turn_deliveries.specs.Outcomes.{Meets, found_of};
 
 use crate::delivery::deliver;
-use deliveries::lead::Lead;
-use deliveries::outcome::Outcome;
 use heap::state::VatState;
 use ids::names::{EventName, MsgId, VatNo};
 use post::message::Message;
 use std::alloc::{AllocError, Global};
 use std::marker::Model;
 use std::sync::Arc;
+use turn_deliveries::lead::Lead;
+use turn_deliveries::outcome::Outcome;
 
 /// A turn to be run: its event, the name of its message and the message, its vat and the vat's state, shared, the budget, and the
 /// seat that it is entered from.

@@ -5,8 +5,8 @@ use Rattle.std.specs.Option.{option_map, option_map_or}
 use Rattle.history.specs.Walks.{step_at}
 use Rattle.history.specs.Records.{State, Record}
 use Rattle.ids.specs.declared.cells.CellKey.{CellKey}
-use Rattle.worldcells.specs.Events.{Noted}
-use Rattle.worldcells.specs.Theory.{cells}
+use Rattle.world_cells.specs.Events.{Noted}
+use Rattle.world_cells.specs.Theory.{cells}
 use Rattle.journal.specs.Items.{Item, keys_at, pass, key_count, all_ready, records_at, entered, neighbours, exchanged}
 
 module _ {A : Type 0} where

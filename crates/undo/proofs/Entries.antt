@@ -6,7 +6,7 @@ use Rattle.std.specs.List.{list_all, slice_get}
 use Rattle.history.specs.Walks.{step_at}
 use Rattle.history.specs.Records.{State, Record, hold, swap_record}
 use Rattle.ids.specs.declared.cells.CellKey.{CellKey}
-use Rattle.worldcells.specs.Theory.{cells, all_pass}
+use Rattle.world_cells.specs.Theory.{cells, all_pass}
 use Rattle.journal.specs.Items.{Item, item_of, keys_at, all_ready, records_at}
 use Rattle.journal.specs.declared.entry.Entry.{Entry}
 use Rattle.undo.proofs.Looping.{and_first}

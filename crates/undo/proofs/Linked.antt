@@ -4,12 +4,12 @@ use Rattle.std.proofs.Math.Bool.{Bool-set}
 use Rattle.std.proofs.Math.Logic.{∥∥₁_elim, ∥∥₁_map}
 use Rattle.std.proofs.lemmas.List.{length-map}
 use Rattle.ids.specs.declared.names.EventName.{EventName}
-use Rattle.links.specs.Places.{place_of, HasRoom, ArePlaces}
-use Rattle.links.specs.Followers.{Follows}
-use Rattle.links.specs.declared.places.Places.{Places}
-use Rattle.links.specs.declared.followers.Followers.{Followers}
-use Rattle.links.proofs.Placing.{places_none, places_same, places_more, places_swapped, room_of}
-use Rattle.links.proofs.Following.{Keeps}
+use Rattle.journal_links.specs.Places.{place_of, HasRoom, ArePlaces}
+use Rattle.journal_links.specs.Followers.{Follows}
+use Rattle.journal_links.specs.declared.places.Places.{Places}
+use Rattle.journal_links.specs.declared.followers.Followers.{Followers}
+use Rattle.journal_links.proofs.Placing.{places_none, places_same, places_more, places_swapped, room_of}
+use Rattle.journal_links.proofs.Following.{Keeps}
 use Rattle.journal.specs.Items.{item_of, exchanged}
 use Rattle.journal.specs.Links.{AreFollowers, names_of}
 use Rattle.journal.specs.SettledView.{settled_item, items_in}

@@ -9,8 +9,8 @@ use Rattle.cells.specs.Seen.{Seen}
 use Rattle.history.specs.Records.{State, hold, swap_state, swap_record}
 use Rattle.ids.specs.CellKeys.{same_key}
 use Rattle.ids.specs.declared.cells.CellKey.{CellKey}
-use Rattle.worldcells.specs.World.{Content}
-use Rattle.worldcells.specs.Theory.{cells, numbered}
+use Rattle.world_cells.specs.World.{Content}
+use Rattle.world_cells.specs.Theory.{cells, numbered}
 
 pub and_second : (a b : Bool) → (a && b) ≡ true → b ≡ true
 and_second true b h = h

@@ -9,7 +9,7 @@ use Rattle.history.specs.Chains.{HasCells, Chained}
 use Rattle.history.specs.Stands.{Stands}
 use Rattle.history.proofs.Standing.{exchanged_stands}
 use Rattle.ids.specs.CellKeys.{same_key}
-use Rattle.worldcells.specs.Theory.{Rule, subject, cells}
+use Rattle.world_cells.specs.Theory.{Rule, subject, cells}
 use Rattle.journal.specs.Items.{Item, may_exchange, neighbours, exchanged}
 use Rattle.undo.specs.CoreView.{items_of}
 use Rattle.journal.specs.Standing.{Told, told, row_told}

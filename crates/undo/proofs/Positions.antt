@@ -7,8 +7,8 @@ use Rattle.std.proofs.lemmas.List.Folds.{list_all-append}
 use Rattle.history.specs.Walks.{step_at, walk}
 use Rattle.history.specs.Records.{State, Record}
 use Rattle.ids.specs.declared.cells.CellKey.{CellKey}
-use Rattle.worldcells.specs.Events.{Noted}
-use Rattle.worldcells.specs.Theory.{cells, all_pass}
+use Rattle.world_cells.specs.Events.{Noted}
+use Rattle.world_cells.specs.Theory.{cells, all_pass}
 use Rattle.journal.specs.Items.{Item, item_of, keys_at, pass, key_count, records_at, swap_item, entered}
 use Rattle.journal.specs.declared.entry.Entry.{Entry}
 use Rattle.undo.proofs.Looping.{and_first, and_second, both_true}

@@ -11,7 +11,7 @@ use Rattle.history.proofs.Exchanges.{contents_after}
 use Rattle.history.proofs.Standing.{begun, appended_stands, undone_stands, undone_contents, redone_stands, redone_contents}
 use Rattle.history.proofs.Walking.{walk_undo, walk_redo}
 use Rattle.ids.specs.declared.cells.CellKey.{CellKey}
-use Rattle.worldcells.specs.Theory.{Rule, subject, cells}
+use Rattle.world_cells.specs.Theory.{Rule, subject, cells}
 use Rattle.journal.specs.Items.{Item, swap_item}
 use Rattle.undo.specs.CoreView.{items_of, state_of, shown}
 use Rattle.journal.specs.Standing.{Told, told, row_told}

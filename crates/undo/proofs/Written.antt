@@ -11,8 +11,8 @@ use Rattle.history.specs.Records.{State, Record, hold, swap_state}
 use Rattle.ids.specs.CellKeys.{same_key}
 use Rattle.ids.proofs.CellKeys.{same_exact, same_self}
 use Rattle.ids.specs.declared.cells.CellKey.{CellKey}
-use Rattle.worldcells.specs.Theory.{cells, kept_of, kepts_of}
-use Rattle.worldcells.specs.declared.record.CellRecord.{CellRecord}
+use Rattle.world_cells.specs.Theory.{cells, kept_of, kepts_of}
+use Rattle.world_cells.specs.declared.record.CellRecord.{CellRecord}
 use Rattle.journal.specs.Items.{Item, item_of, keys_at, swap_item}
 use Rattle.journal.specs.declared.entry.Entry.{Entry}
 use Rattle.undo.specs.Written.{written_at}

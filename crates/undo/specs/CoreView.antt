@@ -2,9 +2,9 @@
 use Rattle.std.specs.Prelude.{ℕ, Bool, List, map, length}
 use Rattle.history.specs.Records.{State}
 use Rattle.ids.specs.declared.cells.CellKey.{CellKey}
-use Rattle.worldcells.specs.View.{is_ready}
-use Rattle.worldcells.specs.View as world
-use Rattle.worldcells.specs.Theory.{cells, state_of_world}
+use Rattle.world_cells.specs.View.{is_ready}
+use Rattle.world_cells.specs.View as world
+use Rattle.world_cells.specs.Theory.{cells, state_of_world}
 use Rattle.journal.specs.Items.{Item, item_of}
 use Rattle.journal.specs.Journals.{items_in}
 use Rattle.undo.specs.declared.undoing.Core.{Core}

@@ -7,9 +7,9 @@ use Rattle.history.specs.Records.{Record, Row, contents, entries_of, swap_record
 use Rattle.history.specs.Chains.{HasCells}
 use Rattle.history.specs.Walks.{spots, walk}
 use Rattle.ids.specs.declared.cells.CellKey.{CellKey}
-use Rattle.worldcells.specs.Events.{Noted}
-use Rattle.worldcells.specs.World.{World}
-use Rattle.worldcells.specs.Theory.{Rule, subject, cells}
+use Rattle.world_cells.specs.Events.{Noted}
+use Rattle.world_cells.specs.World.{World}
+use Rattle.world_cells.specs.Theory.{Rule, subject, cells}
 use Rattle.journal.specs.Standing.{ItemsStand}
 use Rattle.journal.specs.Items.{swap_item, entered, may_exchange, neighbours, exchanged}
 use Rattle.undo.specs.CoreView.{items_of, state_of, shown}

@@ -2,13 +2,13 @@
 ghost use Rattle.std.specs.Prelude.{◌≡◌, ◌++◌, true, length, map, IfOk, OnOk};
 ghost use Rattle.history.specs.Records.{swap_state, swap_record};
 ghost use Rattle.ids.specs.declared.cells.CellKey.{CellKey};
-ghost use Rattle.worldcells.specs.View.{seen_of_world, is_ready, swaps_of, RisesBy};
-ghost use Rattle.worldcells.specs.Theory.{cells, state_of_world, kept_of, kepts_of, all_pass};
+ghost use Rattle.world_cells.specs.View.{seen_of_world, is_ready, swaps_of, RisesBy};
+ghost use Rattle.world_cells.specs.Theory.{cells, state_of_world, kept_of, kepts_of, all_pass};
 
 use ids::cells::CellKey;
 use std::alloc::{AllocError, Global};
-use worldcells::record::CellRecord;
-use worldcells::world::World;
+use world_cells::record::CellRecord;
+use world_cells::world::World;
 
 /// Makes room for the cells of these records, and makes the states of their vats their own. What is seen stays. Fails only for
 /// want of memory.

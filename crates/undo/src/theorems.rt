@@ -1,6 +1,6 @@
 // What the calls of a core keep, whatever rule events go by.
 ghost use Rattle.history.specs.Subject.{Laws};
-ghost use Rattle.worldcells.specs.Theory.{Rule, subject};
+ghost use Rattle.world_cells.specs.Theory.{Rule, subject};
 ghost use Rattle.undo.specs.Standing.{Begins, Enters, Undoes, Redoes, Exchanges};
 
 /// What events do, by the cells that they touch.

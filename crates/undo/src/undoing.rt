@@ -6,19 +6,19 @@ ghost use Rattle.heap.specs.View as heap;
 ghost use Rattle.history.specs.Records.{contents};
 ghost use Rattle.history.specs.Walks.{step_at, walk};
 ghost use Rattle.ids.specs.declared.cells.CellKey.{CellKey};
-ghost use Rattle.erules.specs.OutboxView.{note_of};
-ghost use Rattle.links.specs.Places.{ArePlaces};
-ghost use Rattle.worldcells.specs.Events.{with_notes};
-ghost use Rattle.worldcells.specs.EventView.{event_of};
-ghost use Rattle.worldcells.specs.View.{is_ready, swaps_of as swaps_in, RisesBy};
-ghost use Rattle.worldcells.specs.World.{vat_state};
-ghost use Rattle.worldcells.specs.Theory.{cells, state_of_world, kepts_of, all_pass};
+ghost use Rattle.eval_rules.specs.OutboxView.{note_of};
+ghost use Rattle.journal_links.specs.Places.{ArePlaces};
+ghost use Rattle.world_cells.specs.Events.{with_notes};
+ghost use Rattle.world_cells.specs.EventView.{event_of};
+ghost use Rattle.world_cells.specs.View.{is_ready, swaps_of as swaps_in, RisesBy};
+ghost use Rattle.world_cells.specs.World.{vat_state};
+ghost use Rattle.world_cells.specs.Theory.{cells, state_of_world, kepts_of, all_pass};
 ghost use Rattle.journal.specs.Items.{item_of, is_live, swap_item, entered, keys_at, all_ready, records_at, may_exchange, neighbours, exchanged};
 ghost use Rattle.journal.specs.Links.{AreFollowers, names_of};
 ghost use Rattle.journal.specs.SettledView.{items_in};
 
 use crate::records::{add_keys, make_rooms, swap_records};
-use erules::outbox::Note;
+use eval_rules::outbox::Note;
 use heap::state::VatState;
 use ids::cells::CellKey;
 use ids::names::VatNo;
@@ -26,13 +26,13 @@ use journal::entry::{Entry, Mark, may_exchange, with_writers};
 use journal::journal::Journal;
 use journal::linking::{let_go, list_follower};
 use journal::settled::Settled;
-use links::followers::Followers;
-use links::places::Places;
+use journal_links::followers::Followers;
+use journal_links::places::Places;
 use std::alloc::{AllocError, Global};
 use std::sync::Arc;
-use worldcells::event::Event;
-use worldcells::record::CellRecord;
-use worldcells::world::World;
+use world_cells::event::Event;
+use world_cells::record::CellRecord;
+use world_cells::world::World;
 
 /// An event with its notes and its seat, before it has an entry.
 #[derive(Drop)]

@@ -4,8 +4,8 @@ use Rattle.std.proofs.Math.Logic.{∥∥₁_elim, ∥∥₁_map, ∥∥₁_prop}
 use Rattle.std.proofs.lemmas.List.{reverse-append, at_drop_more}
 use Rattle.history.specs.Subject.{Run, run_none, run_more, after}
 use Rattle.history.proofs.Writing.{after_alike}
-use Rattle.worldcells.specs.Events.{Event}
-use Rattle.worldcells.specs.World.{World, empty}
+use Rattle.world_cells.specs.Events.{Event}
+use Rattle.world_cells.specs.World.{World, empty}
 use Rattle.event.specs.Events.{Foot, Does, events}
 use Rattle.event.proofs.Law.{events_laws}
 use Rattle.event.specs.Runs.{RunFrom, PlainRun}

@@ -6,8 +6,8 @@ use Rattle.ids.specs.declared.names.VatNo.{VatNo}
 use Rattle.ids.specs.declared.names.MsgId.{MsgId}
 use Rattle.kernele.specs.Tree.{Name, Trees}
 use Rattle.post.specs.Messages.{Vat}
-use Rattle.worldcells.specs.Events.{Act, birth, turn, Event}
-use Rattle.worldcells.specs.World.{World}
+use Rattle.world_cells.specs.Events.{Act, birth, turn, Event}
+use Rattle.world_cells.specs.World.{World}
 use Rattle.event.specs.Events.{Foot, AreNamed, Turn, Turns, Does, births, asks, arrives, forwards, learns, turns}
 use Rattle.world.specs.Steps.{Unnamed, TellsStep}
 use Rattle.world.specs.declared.step.StepFault.{StepFault}

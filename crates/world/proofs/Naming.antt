@@ -2,7 +2,7 @@
 use Rattle.std.proofs.Common.{◌≡◌, ℕ, zero, suc, ◌<◌, List, [], ◌∷◌, length, get_or, None, sym, ap, ◌∙◌, arith}
 use Rattle.kernele.specs.Tree.{Name}
 use Rattle.post.specs.Messages.{Vat}
-use Rattle.worldcells.specs.World.{World, vat_named}
+use Rattle.world_cells.specs.World.{World, vat_named}
 use Rattle.event.specs.Events.{AreNamed}
 
 -- each of these names is of a vat

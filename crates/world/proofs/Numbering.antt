@@ -5,7 +5,7 @@ use Rattle.ids.specs.declared.names.EventName.{EventName}
 use Rattle.ids.specs.declared.names.MsgId.{MsgId}
 use Rattle.ids.specs.declared.cells.CellKey.TheVariants as key
 use Rattle.post.specs.Messages.{Message}
-use Rattle.worldcells.specs.World.{World}
+use Rattle.world_cells.specs.World.{World}
 use Rattle.event.specs.Events.{AreNew, letters_from}
 
 -- all of them are new just where those are that are left from a place on

@@ -11,11 +11,11 @@ use Rattle.post.specs.Delivery.{Delivery, opening, asked, sent, waiting}
 use Rattle.post.specs.MessageView.{message_of}
 use Rattle.post.specs.Messages.{Message, Published, at_vat, flying, waits_at, forwarded}
 use Rattle.post.specs.declared.message.Message as code-message
-use Rattle.worldcells.specs.Events.{forward, learn, turn}
-use Rattle.worldcells.specs.World.{World, Content, message, message_in, vat_state}
-use Rattle.deliveries.specs.Outcomes.{found_of}
-use Rattle.deliveries.specs.Turn as deliveries
-use Rattle.deliveries.proofs.Turns.{delivery_same}
+use Rattle.world_cells.specs.Events.{forward, learn, turn}
+use Rattle.world_cells.specs.World.{World, Content, message, message_in, vat_state}
+use Rattle.turn_deliveries.specs.Outcomes.{found_of}
+use Rattle.turn_deliveries.specs.Turn as deliveries
+use Rattle.turn_deliveries.proofs.Turns.{delivery_same}
 use Rattle.event.specs.Events.{Foot, AreNew, Does, forwards, learns, turns, DeliversOn, Turn, Turns, goes_on, letters_from, learn_foot, moved_foot, turn_foot}
 use Rattle.event.specs.Effects.{Happens, BringsLearnt, BringsTurn, turn_of}
 use Rattle.event.specs.Forwarding.{delivery_onward, onward_of}

@@ -1,9 +1,9 @@
 -- What holds of runs, and why events could not be run.
 use Rattle.std.specs.Prelude.{List, reverse}
-use Rattle.worldcells.specs.Events.{Event}
-use Rattle.worldcells.specs.World.{World}
+use Rattle.world_cells.specs.Events.{Event}
+use Rattle.world_cells.specs.World.{World}
 use Rattle.event.specs.Runs.{PlainRun}
-use Rattle.ordering.specs.Theorems.{HaveOwnNames, InOrder}
+use Rattle.event_ordering.specs.Theorems.{HaveOwnNames, InOrder}
 use Rattle.world.specs.declared.step.StepFault.{StepFault}
 use Rattle.world.specs.declared.step.StepFault.TheVariants as fault
 

@@ -9,12 +9,12 @@ use Rattle.ids.specs.declared.cells.CellKey.TheVariants as key
 use Rattle.kernele.specs.Tree.{Name}
 use Rattle.heap.specs.Found.{Found}
 use Rattle.heap.specs.State.{viewed, pending, view_cell}
-use Rattle.worldcells.specs.Events.{Event}
+use Rattle.world_cells.specs.Events.{Event}
 use Rattle.post.specs.Messages.{Vat, Message, Published, at_vat}
-use Rattle.worldcells.specs.World.{World, message, published_as, vat_state}
+use Rattle.world_cells.specs.World.{World, message, published_as, vat_state}
 use Rattle.post.specs.declared.message.Message as code-message
-use Rattle.deliveries.specs.Outcomes.{found_of}
-use Rattle.deliveries.specs.Turn as turns
+use Rattle.turn_deliveries.specs.Outcomes.{found_of}
+use Rattle.turn_deliveries.specs.Turn as turns
 use Rattle.event.specs.Events.{Foot, AreNamed, Does, events}
 use Rattle.event.specs.Ready.{leads_there, first_undone}
 use Rattle.event.specs.Walks.{awaited}

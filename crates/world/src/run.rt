@@ -1,14 +1,14 @@
 // The plain run of events.
 ghost use Rattle.std.specs.Prelude.{IfOk, IfErr, map};
-ghost use Rattle.worldcells.specs.EventView.{event_of};
-ghost use Rattle.worldcells.specs.View.{world_of};
+ghost use Rattle.world_cells.specs.EventView.{event_of};
+ghost use Rattle.world_cells.specs.View.{world_of};
 ghost use Rattle.event.specs.Runs.{PlainRun};
 ghost use Rattle.world.specs.Reruns.{KeepsOrder, TellsRun};
 
 use crate::step::{StepFault, step};
 use std::alloc::Global;
-use worldcells::event::Event;
-use worldcells::world::World;
+use world_cells::event::Event;
+use world_cells::world::World;
 
 /// The world that these events lead to from the empty one, one after another. Where each has a name of its own, a message has its turn
 /// behind all that come before it in the partial order of messages.

@@ -7,13 +7,13 @@ ghost use Rattle.heap.specs.Found.{Found};
 ghost use Rattle.heap.specs.State.{pending, view_cell, viewed};
 ghost use Rattle.heap.specs.View.{state_of};
 ghost use Rattle.turn.specs.Tasks.{task_of};
-ghost use Rattle.worldcells.specs.EventView.{event_of};
-ghost use Rattle.worldcells.specs.Events.{birth, ask, arrive, forward, learn, turn};
+ghost use Rattle.world_cells.specs.EventView.{event_of};
+ghost use Rattle.world_cells.specs.Events.{birth, ask, arrive, forward, learn, turn};
 ghost use Rattle.post.specs.MessageView.{message_of, published_of};
-ghost use Rattle.worldcells.specs.View.{seen_of_world, world_of};
-ghost use Rattle.worldcells.specs.World.{vat_state};
-ghost use Rattle.deliveries.specs.Outcomes.{found_of};
-ghost use Rattle.erules.specs.OutboxView.{letter_of};
+ghost use Rattle.world_cells.specs.View.{seen_of_world, world_of};
+ghost use Rattle.world_cells.specs.World.{vat_state};
+ghost use Rattle.turn_deliveries.specs.Outcomes.{found_of};
+ghost use Rattle.eval_rules.specs.OutboxView.{letter_of};
 ghost use Rattle.event.specs.Events.{AreNew, Foot, letters_from};
 ghost use Rattle.event.specs.Effects.{Happens};
 ghost use Rattle.event.specs.ReadyView.{IsWay};
@@ -21,8 +21,8 @@ ghost use Rattle.event.specs.Naming.{Numbers};
 ghost use Rattle.world.specs.Steps.{StepsTo, TellsStep, Learnable, Ready, RunsAt, Unlearnable, Unnamed, Unready as IsUnready};
 ghost use Rattle.world.specs.declared.step.StepFault.TheVariants.{Memory};
 
-use deliveries::lead::Lead;
-use erules::outbox::Letter;
+use code_unresolver::unresolve;
+use eval_rules::outbox::Letter;
 use event::effects::{
     Effects, ask_effects, birth_effects, learn_effects, move_effects, turn_effects,
 };
@@ -32,16 +32,16 @@ use event::ready::{Delay, Way, check_ready, message_at_vat};
 use heap::state::{VatState, View};
 use ids::names::{EventName, MsgId, PromId, VatNo};
 use ids::text::Text;
+use kernele_scopes::top_names;
 use post::message::Message;
 use post::program::{Question, Script};
 use post::published::Published;
-use scopes::top_names;
 use std::alloc::{AllocError, AllocFailed, Global};
 use turn::ticket::{Out, Ran, Ticket};
+use turn_deliveries::lead::Lead;
 use undo::records::{make_rooms, swap_records};
-use unresolver::unresolve;
-use worldcells::event::{Action, Event};
-use worldcells::world::World;
+use world_cells::event::{Action, Event};
+use world_cells::world::World;
 
 /// The seat of turns that are run from none.
 const NO_SEAT: u64 = 0;

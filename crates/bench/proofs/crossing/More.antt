@@ -1,9 +1,9 @@
 -- What is in journals and books besides, and may cross.
-use Rattle.erules.proofs.outbox.Note.TheSendSync as notes
-use Rattle.erules.proofs.end.Abandon.TheSendSync as abandons
+use Rattle.eval_rules.proofs.outbox.Note.TheSendSync as notes
+use Rattle.eval_rules.proofs.end.Abandon.TheSendSync as abandons
 use Rattle.journal.proofs.entry.Mark.TheSendSync as marks
 use Rattle.journal.proofs.entry.Touched.TheSendSync as toucheds
-use Rattle.agenda.proofs.agenda.Agenda.TheSendSync as agendas
+use Rattle.book_agenda.proofs.agenda.Agenda.TheSendSync as agendas
 use Rattle.desk.proofs.desk.Desk.TheSendSync as desks
 use Rattle.indexmap.proofs.map.IndexMap.TheSendSync as tables
 

@@ -1,12 +1,12 @@
 -- What turns make, and tickets, may cross.
 use denote.Param.Send.{IsSend, IsSync, sendable}
 use Rattle.std.proofs.Crossing.{crosses}
-use Rattle.erules.specs.contracts.outbox.Letter as letter
-use Rattle.erules.specs.contracts.publications.Publications as publications
-use Rattle.erules.specs.contracts.outbox.Outbox as outbox
-use Rattle.deliveries.specs.contracts.lead.Lead as lead
-use Rattle.deliveries.specs.contracts.outcome.Ended as ended
-use Rattle.deliveries.specs.contracts.outcome.Outcome as outcome
+use Rattle.eval_rules.specs.contracts.outbox.Letter as letter
+use Rattle.eval_rules.specs.contracts.publications.Publications as publications
+use Rattle.eval_rules.specs.contracts.outbox.Outbox as outbox
+use Rattle.turn_deliveries.specs.contracts.lead.Lead as lead
+use Rattle.turn_deliveries.specs.contracts.outcome.Ended as ended
+use Rattle.turn_deliveries.specs.contracts.outcome.Outcome as outcome
 use Rattle.bench.proofs.crossing.Messages.{message_crosses, published_crosses}
 use Rattle.bench.proofs.crossing.More.{note_crosses, abandon_crosses}
 use Rattle.bench.proofs.crossing.Names.{message_name_crosses, promise_crosses, carried_crosses, text_crosses, few_crosses}

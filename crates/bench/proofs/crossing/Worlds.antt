@@ -1,14 +1,14 @@
 -- Worlds and journals may cross.
 use denote.Param.Send.{IsSend, IsSync, sendable}
 use Rattle.std.proofs.Crossing.{crosses}
-use Rattle.worldcells.specs.contracts.event.Action as action
-use Rattle.worldcells.specs.contracts.event.Event as happening
-use Rattle.worldcells.specs.contracts.home.Home as home
-use Rattle.worldcells.specs.contracts.homes.Homes as homes
-use Rattle.worldcells.specs.contracts.record.CellRecord as cell_record
-use Rattle.worldcells.specs.contracts.world.World as world
-use Rattle.links.specs.contracts.followers.Followers as followers
-use Rattle.links.specs.contracts.places.Places as places
+use Rattle.world_cells.specs.contracts.event.Action as action
+use Rattle.world_cells.specs.contracts.event.Event as happening
+use Rattle.world_cells.specs.contracts.home.Home as home
+use Rattle.world_cells.specs.contracts.homes.Homes as homes
+use Rattle.world_cells.specs.contracts.record.CellRecord as cell_record
+use Rattle.world_cells.specs.contracts.world.World as world
+use Rattle.journal_links.specs.contracts.followers.Followers as followers
+use Rattle.journal_links.specs.contracts.places.Places as places
 use Rattle.journal.specs.contracts.entry.Entry as entry
 use Rattle.journal.specs.contracts.settled.Settled as settled
 use Rattle.undo.specs.contracts.undoing.Core as core

@@ -1,8 +1,8 @@
 use Rattle.std.proofs.Common.{ap, sym, ◌∙◌, cond, Some, None}
 use Rattle.kernele.specs.View.{trees_of}
-use Rattle.egrammar.specs.Reading.{◌>>=◌, ended}
-use Rattle.egrammar.specs.View.{plain}
-use Rattle.eparser.proofs.Views.{is_empty-plain}
+use Rattle.ereader_grammar.specs.Reading.{◌>>=◌, ended}
+use Rattle.ereader_grammar.specs.View.{plain}
+use Rattle.ereader_parser.proofs.Views.{is_empty-plain}
 use Rattle.ereader.proofs.all_items.Goals as goal
 
 -- tokens are left behind the block

@@ -1,5 +1,5 @@
 use Rattle.std.proofs.Common.{◌∙◌}
-use Rattle.eparser.proofs.Views.{program_at-plain}
+use Rattle.ereader_parser.proofs.Views.{program_at-plain}
 use Rattle.ereader.proofs.read_items.Goals as goal
 
 pub returns-in-Ok-clause-ok : goal.returns-in-Ok-clause-ok

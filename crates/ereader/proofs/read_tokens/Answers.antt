@@ -1,6 +1,6 @@
 use Rattle.std.proofs.Common.{rules}
 use Rattle.std.proofs.lemmas.Result.{err_from_is_err_and}
-use Rattle.egrammar.specs.View.{plain}
+use Rattle.ereader_grammar.specs.View.{plain}
 use Rattle.ereader.proofs.Programs.{found, only, refused}
 use Rattle.ereader.proofs.read_tokens.Goals as goal
 

@@ -5,39 +5,39 @@ use Rattle.kernele.specs.declared.tree.Pattern.TheVariants as pattern
 use Rattle.values.specs.Replies.{list_reply, text_reply}
 use Rattle.values.specs.View.{val_of, vals_of}
 use Rattle.post.specs.Delivery.{Handler}
-use Rattle.erules.specs.At.{At}
-use Rattle.erules.specs.Outcomes.{halt, halted, value, values, reply_end}
-use Rattle.erules.specs.Answered.{OnEnd}
-use Rattle.erules.specs.Doings.{behind, given_by, pair_end, pair_out, promise_pair, same_end, same_read, sent_at, sent_end}
-use Rattle.erules.specs.Locals.{captured_in}
-use Rattle.erules.specs.View.{at, halt_of, opened_of}
-use Rattle.eobjects.specs.View.{Led, OnEntry}
+use Rattle.eval_rules.specs.At.{At}
+use Rattle.eval_rules.specs.Outcomes.{halt, halted, value, values, reply_end}
+use Rattle.eval_rules.specs.Answered.{OnEnd}
+use Rattle.eval_rules.specs.Doings.{behind, given_by, pair_end, pair_out, promise_pair, same_end, same_read, sent_at, sent_end}
+use Rattle.eval_rules.specs.Locals.{captured_in}
+use Rattle.eval_rules.specs.View.{at, halt_of, opened_of}
+use Rattle.eval_objects.specs.View.{Led, OnEntry}
 use Rattle.eval.specs.Escaping.{Escapes}
 use Rattle.eval.specs.Leading.{Leads}
 use Rattle.code.specs.View.{methods_of_codes}
 use Rattle.kernele.specs.Tree.{call, list_tree}
 use Rattle.eval.specs.Sides.{taken_at, taken_end}
-use Rattle.erules.specs.Rules.{ejects, is_open, begun, noun_end, noun_read, sought, object_end, with_object, capture_of, capturing, Ends, Runs, Args, Items, Block, Taking, at_node, Needs, needs, escape_end, choice_of, ends, listing_of, unlisted, run_null, run_bool, run_int, run_text, run_noun, run_call_receiver, run_list, run_same_left, run_same, goes, run_hide, run_if_goes, run_if_ends, run_while_again, run_while_halts, run_while_done, run_while_ends, run_for_ends, run_try, run_try_caught, run_object, run_send_receiver, run_send, run_when, run_when_catch, run_new_promise, when_end, when_made, args_halt}
-use Rattle.erules.proofs.Answering.{stop_weaker, ends_weaker, ends_on, handed_on, ends_over, of_halted}
-use Rattle.erules.proofs.Steps.{node, child, end_taken, slice_of, runs_as, runs_to, ends_to, args_as, args_begin, args_pushed, args_more, args_no_more, args_end, args_done, only_one, one_arg, items_more, items_no_more, items_end, blocks, taking, block_end, taking_end, each_more, each_no_more, each_end, next_round}
+use Rattle.eval_rules.specs.Rules.{ejects, is_open, begun, noun_end, noun_read, sought, object_end, with_object, capture_of, capturing, Ends, Runs, Args, Items, Block, Taking, at_node, Needs, needs, escape_end, choice_of, ends, listing_of, unlisted, run_null, run_bool, run_int, run_text, run_noun, run_call_receiver, run_list, run_same_left, run_same, goes, run_hide, run_if_goes, run_if_ends, run_while_again, run_while_halts, run_while_done, run_while_ends, run_for_ends, run_try, run_try_caught, run_object, run_send_receiver, run_send, run_when, run_when_catch, run_new_promise, when_end, when_made, args_halt}
+use Rattle.eval_rules.proofs.Answering.{stop_weaker, ends_weaker, ends_on, handed_on, ends_over, of_halted}
+use Rattle.eval_rules.proofs.Steps.{node, child, end_taken, slice_of, runs_as, runs_to, ends_to, args_as, args_begin, args_pushed, args_more, args_no_more, args_end, args_done, only_one, one_arg, items_more, items_no_more, items_end, blocks, taking, block_end, taking_end, each_more, each_no_more, each_end, next_round}
 use Rattle.values.specs.Data.{bool, ejector, null}
 use Rattle.eval.proofs.Choosing.{chosen, truth_there, wanted}
 use Rattle.eval.proofs.Repeating.{for_runs}
 use Rattle.eval.proofs.Beginning.{no_steps, no_level, block_none}
 use Rattle.eval.proofs.Unwanted.{all_done, done_then, some_over, to_the_end}
 use Rattle.eval.proofs.Entered.{Enters, call_leads, call_halts, entered, call_as, call_at_hand_over, entered_so, entered_not, call_came, call_entered, on_method, on_none, as_many, escape_over}
-use Rattle.erules.proofs.Scopes.{truncated}
-use Rattle.erules.proofs.Added.{goes_add, block_stays, taking_stays}
-use Rattle.erules.proofs.Fitting.{fits_then, all_fit_then, chosen_fits, repeated_fits, parts_fit, block_fits, entry_fits, round_fits, fits_from}
+use Rattle.eval_rules.proofs.Scopes.{truncated}
+use Rattle.eval_rules.proofs.Added.{goes_add, block_stays, taking_stays}
+use Rattle.eval_rules.proofs.Fitting.{fits_then, all_fit_then, chosen_fits, repeated_fits, parts_fit, block_fits, entry_fits, round_fits, fits_from}
 use Rattle.code.proofs.Fitting.{fits-Call, fits-List, fits-Hide, fits-If, fits-While, fits-For, fits-Try, fits-Object, fits-Escape, fits-Send, fits-When, fits-WhenCatch}
 use Rattle.code.specs.Frames.{only_names, fits_all}
-use Rattle.scopes.specs.Scope.{name_of}
+use Rattle.kernele_scopes.specs.Scope.{name_of}
 use Rattle.heap.specs.State.{frame_of}
-use Rattle.erules.specs.Fits.{fits_at, all_fit_at, frame_behind}
-use Rattle.erules.proofs.Grown.{round_grow}
-use Rattle.erules.proofs.Paid.{args_paid, ends_paid}
+use Rattle.eval_rules.specs.Fits.{fits_at, all_fit_at, frame_behind}
+use Rattle.eval_rules.proofs.Grown.{round_grow}
+use Rattle.eval_rules.proofs.Paid.{args_paid, ends_paid}
 use Rattle.eval.proofs.Promised.{captures_then, handler_there, still_promised}
-use Rattle.erules.proofs.Spent.{condition_less, block_left}
+use Rattle.eval_rules.proofs.Spent.{condition_less, block_left}
 use Rattle.eval.proofs.Returning.{newest_stays, newest_begun, item_returns, alone, escapes_to}
 use Rattle.eval.proofs.Sides.{runs_right, halts_right, right_fits, right_placed, side_of}
 use Rattle.eval.proofs.+evaluate.Goals as goal

@@ -1,16 +1,16 @@
 use Rattle.std.proofs.Common.{drop, ◌-◌, ◌*◌, ◌+◌, ◌≡◌, ◌++◌, length, false}
 use Rattle.kernele.specs.Tree.{while_tree}
 use Rattle.code.specs.Frames.{fits_all, only_names}
-use Rattle.scopes.specs.Scope.{name_of}
-use Rattle.erules.specs.Fits.{fits_at, all_fit_at, frame_at, frame_behind}
+use Rattle.kernele_scopes.specs.Scope.{name_of}
+use Rattle.eval_rules.specs.Fits.{fits_at, all_fit_at, frame_at, frame_behind}
 use Rattle.code.specs.View.{tree_of_code, trees_of_codes}
 use Rattle.values.specs.Data.{null}
 use Rattle.values.specs.View.{val_of, vals_of}
-use Rattle.erules.specs.At.{At}
-use Rattle.erules.specs.Outcomes.{End, Gather}
-use Rattle.erules.specs.Rules.{Args, Each, Items, Runs}
-use Rattle.erules.specs.View.{at}
-use Rattle.erules.proofs.Steps.{after_values}
+use Rattle.eval_rules.specs.At.{At}
+use Rattle.eval_rules.specs.Outcomes.{End, Gather}
+use Rattle.eval_rules.specs.Rules.{Args, Each, Items, Runs}
+use Rattle.eval_rules.specs.View.{at}
+use Rattle.eval_rules.proofs.Steps.{after_values}
 use Rattle.eval.specs.Escaping.{IsNewest}
 use Rattle.eval.proofs.+evaluate.Given as goal
 

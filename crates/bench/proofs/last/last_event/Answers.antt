@@ -1,6 +1,6 @@
 use Rattle.std.proofs.Common.{◌≡◌, ◌+◌, ◌-◌, ◌∙◌, ap, arith, length}
 use Rattle.std.proofs.lemmas.List.{length-map}
-use Rattle.worldcells.specs.EventView.{event_of}
+use Rattle.world_cells.specs.EventView.{event_of}
 use Rattle.journal.specs.Journals.{items_of}
 use Rattle.journal.specs.Lines.{line_of}
 use Rattle.book.specs.BookView.{book_of}

@@ -6,7 +6,7 @@ use Rattle.std.proofs.sync.Mutex.TheSendSync as locks
 use Rattle.crossbeam_utils.proofs.atomic.seq_cell.Wide.TheSendSync as cells
 use Rattle.book.specs.Books.{Book}
 use Rattle.book.specs.BookView.{book_of}
-use Rattle.crew.specs.Work.{StopsWork, Worked}
+use Rattle.book_crew.specs.Work.{StopsWork, Worked}
 use Rattle.bench.proofs.crossing.Shared.{desk_send}
 use Rattle.bench.proofs.once.work_on.Goals as goal
 

@@ -1,5 +1,5 @@
-use Rattle.worldcells.specs.View.{world_of}
-use Rattle.agenda.specs.AgendaView.{NotedIn}
+use Rattle.world_cells.specs.View.{world_of}
+use Rattle.book_agenda.specs.AgendaView.{NotedIn}
 use Rattle.book.proofs.Noting.{there}
 use Rattle.book.proofs.book.noted.Goals as goal
 

@@ -1,7 +1,7 @@
 use Rattle.std.proofs.Common.{sym, ◌∙◌, subst}
 use Rattle.std.proofs.lemmas.Bool.{false≢true}
 use Rattle.post.specs.MessageView.{message_of}
-use Rattle.worldcells.specs.View.{world_of}
+use Rattle.world_cells.specs.View.{world_of}
 use Rattle.event.specs.ReadyView.{IsUnready}
 use Rattle.event.specs.declared.ready.Delay.{Delay}
 use Rattle.book.proofs.Freshness.{leads_back, leads_elsewhere, leads_no_more}

@@ -2,7 +2,7 @@ use Rattle.std.proofs.Common.{◌||◌, ◌+◌, ◌∙◌, get_or, drop, ap}
 use Rattle.std.proofs.lemmas.List.{at_drop_more}
 use Rattle.history.specs.Chains.{is_name}
 use Rattle.ids.specs.declared.names.EventName.{EventName}
-use Rattle.links.specs.Places.{place_of}
+use Rattle.journal_links.specs.Places.{place_of}
 use Rattle.causality.specs.Causes.{has_place}
 use Rattle.causality.proofs.Placed.{placed_more}
 use Rattle.causality.proofs.selection.places_of.Goals as goal

@@ -1,7 +1,7 @@
 use Rattle.std.proofs.Common.{◌≡◌, ℕ, ◌||◌, drop}
 use Rattle.std.specs.List.{list_any}
 use Rattle.history.specs.Chains.{is_name}
-use Rattle.links.specs.Places.{place_of}
+use Rattle.journal_links.specs.Places.{place_of}
 use Rattle.causality.specs.Causes.{has_place}
 use Rattle.causality.proofs.selection.places_of.Given as goal
 

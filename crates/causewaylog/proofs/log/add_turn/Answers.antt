@@ -1,8 +1,8 @@
 use Rattle.std.proofs.Common.{◌≡◌, ◌+◌, List, [], ◌∷◌, ◌++◌, drop, map, sym, ap, ◌∙◌, arith}
 use Rattle.std.proofs.lemmas.Grind.{common_steps}
 use Rattle.std.proofs.lemmas.List.{map-append}
-use Rattle.erules.specs.OutboxView.{note_of}
-use Rattle.erules.specs.declared.outbox.Note.{Note}
+use Rattle.eval_rules.specs.OutboxView.{note_of}
+use Rattle.eval_rules.specs.declared.outbox.Note.{Note}
 use Rattle.serde_json.specs.Data.{Data}
 use Rattle.serde_json.specs.View.{view}
 use Rattle.causewaylog.specs.Facts.{anchor, note_fact, record_at}

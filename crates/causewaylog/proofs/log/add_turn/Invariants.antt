@@ -1,5 +1,5 @@
 use Rattle.std.proofs.Common.{◌≡◌, ◌+◌, ◌++◌, drop, map}
-use Rattle.erules.specs.OutboxView.{note_of}
+use Rattle.eval_rules.specs.OutboxView.{note_of}
 use Rattle.serde_json.specs.View.{view}
 use Rattle.causewaylog.specs.Facts.{note_fact, facts_of}
 use Rattle.causewaylog.specs.Log.{records_from}

@@ -1,6 +1,6 @@
 use Rattle.std.proofs.Common.{◌≡◌, ◌+◌, List, ◌++◌, map, length, take, drop, false, sym, ap, ap₂, ◌∙◌}
 use Rattle.std.proofs.lemmas.Result.{IfOk-weaker}
-use Rattle.worldcells.specs.Events.{Noted}
+use Rattle.world_cells.specs.Events.{Noted}
 use Rattle.journal.specs.Items.{item_of}
 use Rattle.journal.specs.Journals.{items_of as journal_items, settled_item}
 use Rattle.journal.specs.Lines.{line_of}

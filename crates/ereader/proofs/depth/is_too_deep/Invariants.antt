@@ -1,6 +1,6 @@
 use Rattle.std.proofs.Common.{◌<◌, ◌≤◌, ◌↔◌, drop}
 use Rattle.ereader.specs.Brackets.{most_open, most_open_from}
-use Rattle.egrammar.specs.View.{plain}
+use Rattle.ereader_grammar.specs.View.{plain}
 use Rattle.ereader.proofs.depth.is_too_deep.Given as goal
 
 abbrev pub invariant-loop-placed : goal.invariant-loop-placed

@@ -2,12 +2,12 @@ use Rattle.std.proofs.Common.{◌≡◌, ◌∙◌, List, ap, sym}
 use Rattle.kernele.specs.declared.tree.Pattern.{Pattern}
 use Rattle.code.specs.declared.code.Code.{Code}
 use Rattle.values.specs.View.{val_of}
-use Rattle.erules.specs.Doings.{datum_of, datum_read, state_end}
-use Rattle.erules.specs.Outcomes.{value}
-use Rattle.erules.specs.Rules.{broken_end, parts_bound, parts_end, parts_of, thrown_end}
-use Rattle.erules.specs.View.{at}
-use Rattle.erules.proofs.Answering.{end_to, stop_to}
-use Rattle.erules.proofs.Steps.{slice_of}
+use Rattle.eval_rules.specs.Doings.{datum_of, datum_read, state_end}
+use Rattle.eval_rules.specs.Outcomes.{value}
+use Rattle.eval_rules.specs.Rules.{broken_end, parts_bound, parts_end, parts_of, thrown_end}
+use Rattle.eval_rules.specs.View.{at}
+use Rattle.eval_rules.proofs.Answering.{end_to, stop_to}
+use Rattle.eval_rules.proofs.Steps.{slice_of}
 use Rattle.eval.specs.Sides.{taken_at, taken_end}
 use Rattle.eval.proofs.Sides.{takes_nothing}
 use Rattle.eval.proofs.right.take.Goals as goal

@@ -1,7 +1,7 @@
 use Rattle.std.proofs.Common.{ap, ◌∙◌}
 use Rattle.sends.specs.Vats.{ended}
-use Rattle.erules.specs.Doings.{behind, given_by}
-use Rattle.erules.specs.View.{at}
+use Rattle.eval_rules.specs.Doings.{behind, given_by}
+use Rattle.eval_rules.specs.View.{at}
 use Rattle.eval.proofs.Listed.{parts_given}
 use Rattle.eval.proofs.right.take_parts.Goals as goal
 

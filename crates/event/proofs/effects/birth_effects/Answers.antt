@@ -2,9 +2,9 @@ use Rattle.std.proofs.Common.{[], ◌∷◌, ◌++◌, Some, List, ap, ◌∙◌
 use Rattle.ids.specs.declared.cells.CellKey.TheVariants as key
 use Rattle.code.specs.View.{trees_of_codes}
 use Rattle.post.specs.MessageView.{message_of}
-use Rattle.worldcells.specs.Theory.{kepts_of, kept_of}
-use Rattle.scopes.specs.declared.naming.TopName.{TopName}
-use Rattle.worldcells.specs.World.{message, vat}
+use Rattle.world_cells.specs.Theory.{kepts_of, kept_of}
+use Rattle.kernele_scopes.specs.declared.naming.TopName.{TopName}
+use Rattle.world_cells.specs.World.{message, vat}
 use Rattle.event.specs.Events.{opening_message}
 use Rattle.event.proofs.Bringing.{birth_brings, earlier_same}
 use Rattle.event.proofs.effects.birth_effects.Goals as goal

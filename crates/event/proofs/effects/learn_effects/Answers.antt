@@ -1,6 +1,6 @@
 use Rattle.std.proofs.Common.{[], ◌∷◌, ◌++◌, ap, ◌∙◌}
 use Rattle.ids.specs.declared.cells.CellKey.TheVariants as key
-use Rattle.worldcells.specs.Theory.{kepts_of}
+use Rattle.world_cells.specs.Theory.{kepts_of}
 use Rattle.event.specs.Entries.{entries_of, keys_in, left_in, kept_left}
 use Rattle.event.proofs.Leaving.{learning_brings}
 use Rattle.event.proofs.effects.learn_effects.Goals as goal

@@ -1,9 +1,9 @@
 use Rattle.std.proofs.Common.{[], ◌∷◌, ◌++◌, map, ap, ap₂, ◌∙◌}
 use Rattle.ids.specs.declared.cells.CellKey.TheVariants as key
 use Rattle.post.specs.MessageView.{message_of}
-use Rattle.erules.specs.OutboxView.{letter_of, note_of}
-use Rattle.erules.specs.PublicationsView.{publications_of}
-use Rattle.worldcells.specs.View.{world_of}
+use Rattle.eval_rules.specs.OutboxView.{letter_of, note_of}
+use Rattle.eval_rules.specs.PublicationsView.{publications_of}
+use Rattle.world_cells.specs.View.{world_of}
 use Rattle.event.specs.Entries.{entries_of, keys_in}
 use Rattle.event.specs.Events.{letters_from}
 use Rattle.event.proofs.Leaving.{turn_brings}

@@ -1,4 +1,4 @@
-use Rattle.worldcells.specs.Theory.{kepts_of}
+use Rattle.world_cells.specs.Theory.{kepts_of}
 use Rattle.event.proofs.Gathering.{kept_next}
 use Rattle.event.proofs.left.add_records.Goals as goal
 

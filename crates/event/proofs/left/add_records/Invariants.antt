@@ -1,6 +1,6 @@
 use Rattle.std.proofs.Common.{◌≡◌, ◌++◌, take}
 use Rattle.cells.specs.Touches.{touched_list, touched_count}
-use Rattle.worldcells.specs.Theory.{kepts_of}
+use Rattle.world_cells.specs.Theory.{kepts_of}
 use Rattle.event.specs.Entries.{entries_in, left_in, kept_left}
 use Rattle.event.proofs.left.add_records.Given as goal
 

@@ -1,5 +1,5 @@
 use Rattle.std.proofs.Common.{◌≡◌, ◌++◌, drop}
-use Rattle.worldcells.specs.Theory.{kepts_of}
+use Rattle.world_cells.specs.Theory.{kepts_of}
 use Rattle.event.proofs.Adding.{letters_kept}
 use Rattle.event.proofs.making.record_letters.Given as goal
 

@@ -1,7 +1,7 @@
 use Rattle.std.proofs.Common.{◌≡◌, ◌++◌, length, drop}
-use Rattle.erules.specs.PublicationsView.{publications_of}
-use Rattle.worldcells.specs.Theory.{kepts_of}
-use Rattle.worldcells.specs.View.{world_of}
+use Rattle.eval_rules.specs.PublicationsView.{publications_of}
+use Rattle.world_cells.specs.Theory.{kepts_of}
+use Rattle.world_cells.specs.View.{world_of}
 use Rattle.event.proofs.Adding.{board_kept}
 use Rattle.event.proofs.making.record_publications.Given as goal
 

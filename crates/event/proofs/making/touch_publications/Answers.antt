@@ -1,7 +1,7 @@
 use Rattle.std.proofs.Common.{refl}
 use Rattle.ids.specs.declared.cells.CellKey.TheVariants as key
 use Rattle.post.specs.MessageView.{published_of}
-use Rattle.erules.specs.PublicationsView.{publications_of}
+use Rattle.eval_rules.specs.PublicationsView.{publications_of}
 use Rattle.event.proofs.Gathering.{mapped_at}
 use Rattle.event.proofs.making.touch_publications.Goals as goal
 

@@ -1,6 +1,6 @@
 use Rattle.std.proofs.Common.{◌≡◌, ◌++◌, length, map, take}
 use Rattle.ids.specs.declared.cells.CellKey.TheVariants as key
-use Rattle.erules.specs.PublicationsView.{publications_of}
+use Rattle.eval_rules.specs.PublicationsView.{publications_of}
 use Rattle.event.proofs.making.touch_publications.Given as goal
 
 abbrev pub invariant-loop-place : goal.invariant-loop-place

@@ -1,5 +1,5 @@
 use Rattle.std.proofs.Common.{◌≡◌, map, take}
-use Rattle.erules.specs.OutboxView.{note_of}
+use Rattle.eval_rules.specs.OutboxView.{note_of}
 use Rattle.event.proofs.noting.share_notes.Given as goal
 
 abbrev pub invariant-loop-note : goal.invariant-loop-note

@@ -1,6 +1,6 @@
 use Rattle.std.proofs.Common.{get_or, sym, ap, ◌∙◌, subst}
 use Rattle.eorder.specs.Fences.{Rises}
-use Rattle.worldcells.specs.View.{world_of}
+use Rattle.world_cells.specs.View.{world_of}
 use Rattle.event.specs.Ready.{first_undone, early_by}
 use Rattle.event.proofs.Waiting.{any_default, undone_here}
 use Rattle.event.proofs.ready.check_done.Goals as goal

@@ -1,7 +1,7 @@
 use Rattle.std.proofs.Common.{rules, ◌≡◌, true, cond, Some, sym, ap, ◌∙◌}
 use Rattle.std.proofs.lemmas.Result.{err_from_is_err_and}
 use Rattle.post.specs.MessageView.{message_of}
-use Rattle.worldcells.specs.View.{world_of}
+use Rattle.world_cells.specs.View.{world_of}
 use Rattle.event.specs.Ready.{first_undone, leads_there, early_by}
 use Rattle.event.specs.Walks.{awaited}
 use Rattle.event.specs.declared.ready.Unready.TheVariants as why

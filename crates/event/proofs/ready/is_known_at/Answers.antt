@@ -4,8 +4,8 @@ use Rattle.refs.specs.Walks.{walk, most_walked}
 use Rattle.sends.specs.Playing.{views_in}
 use Rattle.sends.specs.Vats.{resolution_in}
 use Rattle.values.specs.View.{val_of}
-use Rattle.worldcells.specs.View.{world_of}
-use Rattle.worldcells.specs.World.{vat_state}
+use Rattle.world_cells.specs.View.{world_of}
+use Rattle.world_cells.specs.World.{vat_state}
 use Rattle.event.specs.Walks.{is_known}
 use Rattle.event.proofs.Ends.{known_is, none_told, nothing_followed}
 use Rattle.event.proofs.ready.is_known_at.Goals as goal

@@ -1,6 +1,6 @@
 use Rattle.std.proofs.Common.{◌≡◌, suc, ◌-◌, Some, IfOk, length, slice_get, sym, subst, arith}
 use Rattle.std.proofs.lemmas.Option.{slice_get_within}
-use Rattle.worldcells.specs.View.{world_of}
+use Rattle.world_cells.specs.View.{world_of}
 use Rattle.event.proofs.Ends.{last_is}
 use Rattle.event.proofs.walks.last_fences.Goals as goal
 

@@ -1,7 +1,7 @@
 use Rattle.std.proofs.Common.{sym, ap, ◌∙◌}
 use Rattle.std.specs.Option.{option_map}
 use Rattle.values.specs.View.{val_of}
-use Rattle.worldcells.specs.View.{world_of}
+use Rattle.world_cells.specs.View.{world_of}
 use Rattle.event.specs.Walks.{by_the_board}
 use Rattle.event.proofs.Ends.{end_is, ring_is}
 use Rattle.event.proofs.walks.walk.Goals as goal

@@ -1,6 +1,6 @@
 use Rattle.std.proofs.Common.{◌≡◌, ◌<◌, true, length, get_or, sym, ap, ◌∙◌, arith}
 use Rattle.ids.specs.CellKeys.{same_key}
-use Rattle.worldcells.specs.Records.{record_of}
+use Rattle.world_cells.specs.Records.{record_of}
 use Rattle.journal.specs.Items.{last_of}
 use Rattle.journal.proofs.Among.{any_at}
 use Rattle.journal.proofs.entry.is_touched.Goals as goal

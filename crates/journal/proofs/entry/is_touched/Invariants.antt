@@ -1,7 +1,7 @@
 use Rattle.std.proofs.Common.{◌≡◌, false, take}
 use Rattle.std.specs.List.{list_any}
 use Rattle.ids.specs.CellKeys.{same_key}
-use Rattle.worldcells.specs.Records.{record_of}
+use Rattle.world_cells.specs.Records.{record_of}
 use Rattle.journal.specs.Items.{lasts_of}
 use Rattle.journal.proofs.entry.is_touched.Given as goal
 

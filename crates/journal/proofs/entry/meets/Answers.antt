@@ -2,7 +2,7 @@ use Rattle.std.proofs.Common.{◌≡◌, ◌<◌, Bool, true, List, Option, ℕ,
 use Rattle.std.specs.List.{list_any}
 use Rattle.ids.specs.CellKeys.{same_key}
 use Rattle.ids.specs.declared.cells.CellKey.{CellKey}
-use Rattle.worldcells.specs.Theory.{kept_of}
+use Rattle.world_cells.specs.Theory.{kept_of}
 use Rattle.journal.specs.Items.{lasts_of}
 use Rattle.journal.proofs.Among.{any_at}
 use Rattle.journal.proofs.entry.meets.Goals as goal

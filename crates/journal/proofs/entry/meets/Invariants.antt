@@ -1,7 +1,7 @@
 use Rattle.std.proofs.Common.{◌≡◌, false, take}
 use Rattle.std.specs.List.{list_any}
 use Rattle.ids.specs.CellKeys.{same_key}
-use Rattle.worldcells.specs.Theory.{kepts_of}
+use Rattle.world_cells.specs.Theory.{kepts_of}
 use Rattle.journal.specs.Items.{lasts_of}
 use Rattle.journal.proofs.entry.meets.Given as goal
 

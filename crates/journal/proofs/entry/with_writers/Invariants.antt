@@ -1,5 +1,5 @@
 use Rattle.std.proofs.Common.{◌≡◌, map, take}
-use Rattle.worldcells.specs.Theory.{state_of_world}
+use Rattle.world_cells.specs.Theory.{state_of_world}
 use Rattle.journal.specs.Items.{lasts_of}
 use Rattle.journal.proofs.entry.with_writers.Given as goal
 

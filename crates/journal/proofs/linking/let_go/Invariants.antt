@@ -1,4 +1,4 @@
-use Rattle.links.proofs.Following.{Keeps}
+use Rattle.journal_links.proofs.Following.{Keeps}
 use Rattle.journal.proofs.linking.let_go.Given as goal
 
 abbrev pub invariant-loop-entry : goal.invariant-loop-entry

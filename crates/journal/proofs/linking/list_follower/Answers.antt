@@ -1,8 +1,8 @@
 use Rattle.std.proofs.Common.{◌≡◌, ◌∙◌, ℕ, ◌<◌, Some, None, length, get_or, take, sym, ap, arith}
 use Rattle.ids.specs.declared.names.EventName.{EventName}
-use Rattle.links.specs.Followers.{may_follow}
-use Rattle.links.specs.declared.followers.Followers.{Followers}
-use Rattle.links.proofs.Following.{Keeps, follows_kept}
+use Rattle.journal_links.specs.Followers.{may_follow}
+use Rattle.journal_links.specs.declared.followers.Followers.{Followers}
+use Rattle.journal_links.proofs.Following.{Keeps, follows_kept}
 use Rattle.journal.specs.Items.{number_of, lasts_of}
 use Rattle.journal.specs.declared.entry.Touched.{Touched}
 use Rattle.journal.proofs.Linked.{follows_more}

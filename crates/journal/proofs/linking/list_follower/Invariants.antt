@@ -1,6 +1,6 @@
 use Rattle.std.proofs.Common.{take}
-use Rattle.links.specs.Followers.{Follows}
-use Rattle.links.proofs.Following.{Keeps}
+use Rattle.journal_links.specs.Followers.{Follows}
+use Rattle.journal_links.proofs.Following.{Keeps}
 use Rattle.journal.specs.Items.{lasts_of}
 use Rattle.journal.proofs.linking.list_follower.Given as goal
 

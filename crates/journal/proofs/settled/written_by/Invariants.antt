@@ -1,5 +1,5 @@
 use Rattle.std.proofs.Common.{◌≡◌, map, take}
-use Rattle.worldcells.specs.Theory.{kepts_of}
+use Rattle.world_cells.specs.Theory.{kepts_of}
 use Rattle.journal.specs.Items.{item_of, lasts_of}
 use Rattle.journal.specs.Lines.{writer_of}
 use Rattle.journal.proofs.settled.written_by.Given as goal

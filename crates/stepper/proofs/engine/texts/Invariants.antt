@@ -1,5 +1,5 @@
 use Rattle.std.proofs.Common.{◌≡◌, ◌++◌, drop, map}
-use Rattle.commands.specs.Words.{words_in}
+use Rattle.stepper_commands.specs.Words.{words_in}
 use Rattle.stepper.proofs.engine.texts.Given as goal
 
 -- the names so far, and those that are left

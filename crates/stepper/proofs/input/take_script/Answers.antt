@@ -1,9 +1,9 @@
 use Rattle.std.proofs.Common.{◌≡◌, ap, refl, subst, ◌∙◌, List, [], ℕ, nat_eq, arith}
 use Rattle.std.specs.Prelude.{IfOk}
 use Rattle.std.proofs.lemmas.Result.{err_from_is_err_and}
-use Rattle.commands.specs.Scripts.{fault_in, unless}
-use Rattle.commands.specs.ScriptView.{with_line}
-use Rattle.streams.proofs.Giving.{gives_none}
+use Rattle.stepper_commands.specs.Scripts.{fault_in, unless}
+use Rattle.stepper_commands.specs.ScriptView.{with_line}
+use Rattle.stepper_streams.proofs.Giving.{gives_none}
 use Rattle.stepper.proofs.Scripting.{scripted_none, scripted_more, scripted_all, scripted_short, scripted_stops, grown_by}
 use Rattle.stepper.proofs.input.take_script.Goals as goal
 

@@ -1,4 +1,4 @@
-use Rattle.streams.proofs.Giving.{tells_both}
+use Rattle.stepper_streams.proofs.Giving.{tells_both}
 use Rattle.stepper.proofs.words.put_about_number.Goals as goal
 
 pub returns : goal.returns

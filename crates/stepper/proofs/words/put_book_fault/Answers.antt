@@ -1,6 +1,6 @@
 use Rattle.std.proofs.Common.{ap, sym}
 use Rattle.book.specs.Fault.{fault_text}
-use Rattle.streams.proofs.Giving.{tells_as}
+use Rattle.stepper_streams.proofs.Giving.{tells_as}
 use Rattle.stepper.proofs.words.put_book_fault.Goals as goal
 
 pub returns-in-NotClosed : goal.returns-in-NotClosed

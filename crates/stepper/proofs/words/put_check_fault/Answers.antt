@@ -1,5 +1,5 @@
 use Rattle.std.proofs.Common.{◌++◌, codes, ap, sym, ◌∙◌}
-use Rattle.streams.proofs.Giving.{tells_as}
+use Rattle.stepper_streams.proofs.Giving.{tells_as}
 use Rattle.stepper.specs.Words.{check_text}
 use Rattle.stepper.proofs.words.put_check_fault.Goals as goal
 

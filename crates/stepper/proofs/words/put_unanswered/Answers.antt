@@ -1,6 +1,6 @@
 use Rattle.std.proofs.Common.{ap, sym}
-use Rattle.questions.specs.Refusals.{unanswered_text}
-use Rattle.streams.proofs.Giving.{tells_as}
+use Rattle.stepper_questions.specs.Refusals.{unanswered_text}
+use Rattle.stepper_streams.proofs.Giving.{tells_as}
 use Rattle.stepper.proofs.words.put_unanswered.Goals as goal
 
 pub returns-in-NoObject : goal.returns-in-NoObject

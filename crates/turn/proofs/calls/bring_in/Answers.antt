@@ -3,12 +3,12 @@ use Rattle.std.proofs.lemmas.Result.{on_ok_weaker}
 use Rattle.values.specs.View.{vals_of}
 use Rattle.sends.specs.Vats.{coming_in, nothing, references_in}
 use Rattle.post.specs.DeliveryView.{call_of}
-use Rattle.emessages.proofs.Behind.{did_leave}
-use Rattle.erules.specs.Doings.{behind}
-use Rattle.erules.specs.View.{at}
-use Rattle.erules.proofs.Steps.{slice_of}
-use Rattle.deliveries.specs.Outcomes.{found_of}
-use Rattle.deliveries.specs.Turn.{list_coming}
+use Rattle.eval_messages.proofs.Behind.{did_leave}
+use Rattle.eval_rules.specs.Doings.{behind}
+use Rattle.eval_rules.specs.View.{at}
+use Rattle.eval_rules.proofs.Steps.{slice_of}
+use Rattle.turn_deliveries.specs.Outcomes.{found_of}
+use Rattle.turn_deliveries.specs.Turn.{list_coming}
 use Rattle.turn.proofs.Calling.{behind_both}
 use Rattle.turn.proofs.calls.bring_in.Goals as goal
 

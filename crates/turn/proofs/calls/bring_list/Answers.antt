@@ -3,10 +3,10 @@ use Rattle.std.proofs.lemmas.Result.{on_ok_weaker}
 use Rattle.values.specs.View.{val_of}
 use Rattle.values.specs.declared.value.Value.{Value}
 use Rattle.sends.specs.Vats.{coming_in, nothing, references}
-use Rattle.emessages.proofs.Behind.{did_leave}
-use Rattle.erules.specs.Doings.{behind}
-use Rattle.erules.specs.View.{at}
-use Rattle.deliveries.specs.Turn.{list_coming}
+use Rattle.eval_messages.proofs.Behind.{did_leave}
+use Rattle.eval_rules.specs.Doings.{behind}
+use Rattle.eval_rules.specs.View.{at}
+use Rattle.turn_deliveries.specs.Turn.{list_coming}
 use Rattle.turn.proofs.calls.bring_list.Goals as goal
 
 pub returns-in-List : goal.returns-in-List

@@ -1,13 +1,13 @@
 use Rattle.std.proofs.Common.{refl, ap, ◌∙◌}
 use Rattle.values.specs.View.{val_of, vals_of}
 use Rattle.post.specs.DeliveryView.{call_of}
-use Rattle.erules.specs.Outcomes.{halt, value}
-use Rattle.erules.specs.View.{at}
-use Rattle.erules.proofs.Answering.{ends_weaker, handed_on}
-use Rattle.erules.proofs.Steps.{slice_of}
-use Rattle.eobjects.specs.View.{Led as CallLed}
-use Rattle.deliveries.specs.Outcomes.{found_of}
-use Rattle.deliveries.specs.Turn.{Led, call_meeting, call_met}
+use Rattle.eval_rules.specs.Outcomes.{halt, value}
+use Rattle.eval_rules.specs.View.{at}
+use Rattle.eval_rules.proofs.Answering.{ends_weaker, handed_on}
+use Rattle.eval_rules.proofs.Steps.{slice_of}
+use Rattle.eval_objects.specs.View.{Led as CallLed}
+use Rattle.turn_deliveries.specs.Outcomes.{found_of}
+use Rattle.turn_deliveries.specs.Turn.{Led, call_meeting, call_met}
 use Rattle.eval.proofs.Entered.{on_method, on_none}
 use Rattle.turn.proofs.Calling.{MadeOn, call_came, call_entered}
 use Rattle.turn.proofs.calls.run_call.Goals as goal

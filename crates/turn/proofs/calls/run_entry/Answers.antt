@@ -1,12 +1,12 @@
 use Rattle.std.proofs.Common.{rules, subst}
 use Rattle.code.specs.View.{trees_of_codes}
 use Rattle.values.specs.Data.{null}
-use Rattle.erules.specs.Answered.{OnEnd}
-use Rattle.erules.specs.Locals.{captured_in}
-use Rattle.erules.specs.Rules.{Items}
-use Rattle.erules.specs.View.{at}
-use Rattle.erules.proofs.Fitting.{entry_fits}
-use Rattle.erules.proofs.Steps.{slice_of}
+use Rattle.eval_rules.specs.Answered.{OnEnd}
+use Rattle.eval_rules.specs.Locals.{captured_in}
+use Rattle.eval_rules.specs.Rules.{Items}
+use Rattle.eval_rules.specs.View.{at}
+use Rattle.eval_rules.proofs.Fitting.{entry_fits}
+use Rattle.eval_rules.proofs.Steps.{slice_of}
 use Rattle.turn.proofs.calls.run_entry.Goals as goal
 
 pub eval_items-requires : goal.eval_items-requires

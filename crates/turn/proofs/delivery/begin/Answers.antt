@@ -1,6 +1,6 @@
 use Rattle.std.proofs.Common.{[]}
-use Rattle.erules.specs.Locals.{locals_after}
-use Rattle.erules.specs.View.{opened_of}
+use Rattle.eval_rules.specs.Locals.{locals_after}
+use Rattle.eval_rules.specs.View.{opened_of}
 use Rattle.turn.proofs.delivery.begin.Goals as goal
 
 pub returns : goal.returns

@@ -1,7 +1,7 @@
 use Rattle.std.proofs.Common.{ap, refl, ◌∙◌}
 use Rattle.heap.specs.View.{state_of}
 use Rattle.post.specs.DeliveryView.{delivery_of}
-use Rattle.deliveries.specs.Turn.{start}
+use Rattle.turn_deliveries.specs.Turn.{start}
 use Rattle.turn.specs.Runs.{is_opening}
 use Rattle.turn.proofs.Meeting.{came_to}
 use Rattle.turn.proofs.delivery.deliver.Goals as goal

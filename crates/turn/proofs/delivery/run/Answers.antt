@@ -4,12 +4,12 @@ use Rattle.code.specs.View.{trees_of_codes}
 use Rattle.values.specs.Data.{null}
 use Rattle.post.specs.DeliveryView.{delivery_of}
 use Rattle.post.specs.declared.delivery.Delivery.{Delivery}
-use Rattle.erules.specs.Answered.{OnEnd}
-use Rattle.erules.specs.Rules.{Items}
-use Rattle.erules.specs.View.{at}
-use Rattle.erules.proofs.Steps.{slice_of}
-use Rattle.deliveries.specs.Outcomes.{found_of}
-use Rattle.deliveries.specs.Turn.{knowing}
+use Rattle.eval_rules.specs.Answered.{OnEnd}
+use Rattle.eval_rules.specs.Rules.{Items}
+use Rattle.eval_rules.specs.View.{at}
+use Rattle.eval_rules.proofs.Steps.{slice_of}
+use Rattle.turn_deliveries.specs.Outcomes.{found_of}
+use Rattle.turn_deliveries.specs.Turn.{knowing}
 use Rattle.turn.specs.Runs.{Does, is_opening}
 use Rattle.turn.proofs.Deliveries.{question_fits}
 use Rattle.turn.proofs.delivery.run.Goals as goal

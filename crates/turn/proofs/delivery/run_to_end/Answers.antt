@@ -1,8 +1,8 @@
 use Rattle.std.proofs.lemmas.Result.{IfOk-weaker}
 use Rattle.values.specs.View.{val_of}
-use Rattle.erules.specs.Outcomes.{halt, value}
-use Rattle.erules.specs.View.{at, halt_of}
-use Rattle.erules.proofs.Answering.{of_halted}
+use Rattle.eval_rules.specs.Outcomes.{halt, value}
+use Rattle.eval_rules.specs.View.{at, halt_of}
+use Rattle.eval_rules.proofs.Answering.{of_halted}
 use Rattle.turn.specs.Runs.{Does}
 use Rattle.turn.proofs.delivery.run_to_end.Goals as goal
 

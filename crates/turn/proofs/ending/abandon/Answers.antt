@@ -1,7 +1,7 @@
 use Rattle.std.proofs.Common.{ap, ◌∙◌}
-use Rattle.erules.specs.OutboxView.{outbox_of}
-use Rattle.erules.specs.View.{cause_of}
-use Rattle.deliveries.specs.Outcomes.{told_of}
+use Rattle.eval_rules.specs.OutboxView.{outbox_of}
+use Rattle.eval_rules.specs.View.{cause_of}
+use Rattle.turn_deliveries.specs.Outcomes.{told_of}
 use Rattle.turn.proofs.Telling.{loses}
 use Rattle.turn.proofs.ending.abandon.Goals as goal
 

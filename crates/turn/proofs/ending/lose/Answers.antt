@@ -1,5 +1,5 @@
 use Rattle.std.proofs.lemmas.Result.{IfOk-weaker}
-use Rattle.erules.specs.View.{at}
+use Rattle.eval_rules.specs.View.{at}
 use Rattle.turn.proofs.Telling.{abandons_told, ejects_told, throws_told}
 use Rattle.turn.proofs.ending.lose.Goals as goal
 

@@ -1,9 +1,9 @@
 use Rattle.std.proofs.Common.{ap, ◌∙◌}
 use Rattle.values.specs.View.{reply_of}
-use Rattle.erules.specs.Doings.{published_out}
-use Rattle.erules.specs.OutboxView.{outbox_of}
+use Rattle.eval_rules.specs.Doings.{published_out}
+use Rattle.eval_rules.specs.OutboxView.{outbox_of}
 use Rattle.sends.specs.View.{published_of}
-use Rattle.deliveries.specs.Outcomes.{told_of}
+use Rattle.turn_deliveries.specs.Outcomes.{told_of}
 use Rattle.turn.proofs.Telling.{tells}
 use Rattle.turn.proofs.ending.tell.Goals as goal
 

@@ -1,5 +1,5 @@
 use Rattle.std.proofs.Common.{sym, ◌∙◌}
-use Rattle.erules.specs.View.{at}
+use Rattle.eval_rules.specs.View.{at}
 use Rattle.turn.proofs.Knowing.{known_all, known_more}
 use Rattle.turn.proofs.opening.know.Goals as goal
 

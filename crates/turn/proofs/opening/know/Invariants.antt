@@ -1,6 +1,6 @@
 use Rattle.std.proofs.Common.{◌≡◌, drop}
-use Rattle.erules.specs.View.{at}
-use Rattle.deliveries.specs.Turn.{knowing}
+use Rattle.eval_rules.specs.View.{at}
+use Rattle.turn_deliveries.specs.Turn.{knowing}
 use Rattle.turn.proofs.opening.know.Given as goal
 
 -- what knowing the vats that are left comes to is what knowing all comes to

@@ -3,9 +3,9 @@ use Rattle.std.proofs.lemmas.Result.{on_ok_weaker}
 use Rattle.heap.specs.State.{fixed}
 use Rattle.values.specs.Data.{promise}
 use Rattle.sends.specs.Vats.{comes_in, nothing}
-use Rattle.emessages.proofs.Behind.{did_leave}
-use Rattle.erules.specs.Rules.{binding}
-use Rattle.erules.specs.View.{at}
+use Rattle.eval_messages.proofs.Behind.{did_leave}
+use Rattle.eval_rules.specs.Rules.{binding}
+use Rattle.eval_rules.specs.View.{at}
 use Rattle.turn.proofs.opening.know_vat.Goals as goal
 
 pub returns : goal.returns

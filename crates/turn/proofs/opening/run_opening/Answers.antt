@@ -1,9 +1,9 @@
 use Rattle.std.proofs.Common.{rules, subst}
 use Rattle.code.specs.View.{trees_of_codes}
 use Rattle.values.specs.Data.{null}
-use Rattle.erules.specs.Answered.{OnEnd}
-use Rattle.erules.specs.Rules.{Items}
-use Rattle.erules.specs.View.{at}
+use Rattle.eval_rules.specs.Answered.{OnEnd}
+use Rattle.eval_rules.specs.Rules.{Items}
+use Rattle.eval_rules.specs.View.{at}
 use Rattle.turn.proofs.Knowing.{script_fits}
 use Rattle.turn.proofs.opening.run_opening.Goals as goal
 

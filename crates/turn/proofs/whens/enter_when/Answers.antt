@@ -1,8 +1,8 @@
 use Rattle.std.proofs.Common.{◌∙◌}
 use Rattle.heap.specs.View.{nouns_of}
-use Rattle.erules.specs.Locals.{locals_after}
-use Rattle.erules.specs.Rules.{inside}
-use Rattle.erules.specs.View.{at}
+use Rattle.eval_rules.specs.Locals.{locals_after}
+use Rattle.eval_rules.specs.Rules.{inside}
+use Rattle.eval_rules.specs.View.{at}
 use Rattle.turn.proofs.whens.enter_when.Goals as goal
 
 pub returns : goal.returns

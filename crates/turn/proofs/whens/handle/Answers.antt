@@ -6,12 +6,12 @@ use Rattle.heap.specs.View.{nouns_of}
 use Rattle.post.specs.Blocks.{handler_fits}
 use Rattle.post.specs.DeliveryView.{handler_of}
 use Rattle.values.specs.Data.{null, text}
-use Rattle.erules.specs.Outcomes.{halt}
-use Rattle.erules.specs.Rules.{Items, matched}
-use Rattle.erules.specs.View.{at}
-use Rattle.erules.proofs.Answering.{ends_weaker, stop_weaker}
-use Rattle.erules.proofs.Steps.{slice_of}
-use Rattle.deliveries.specs.Turn.{Led, handled}
+use Rattle.eval_rules.specs.Outcomes.{halt}
+use Rattle.eval_rules.specs.Rules.{Items, matched}
+use Rattle.eval_rules.specs.View.{at}
+use Rattle.eval_rules.proofs.Answering.{ends_weaker, stop_weaker}
+use Rattle.eval_rules.proofs.Steps.{slice_of}
+use Rattle.turn_deliveries.specs.Turn.{Led, handled}
 use Rattle.turn.proofs.Waiting.{entered_there, handled_fits, handler_there, thrown_there}
 use Rattle.turn.proofs.whens.handle.Goals as goal
 

@@ -4,12 +4,12 @@ use Rattle.values.specs.Data.{null}
 use Rattle.values.specs.View.{val_of}
 use Rattle.values.specs.declared.value.Value.{Value}
 use Rattle.post.specs.DeliveryView.{when_of}
-use Rattle.erules.specs.Answered.{OnEnd}
-use Rattle.erules.specs.Rules.{enters, Items}
-use Rattle.erules.specs.View.{at}
-use Rattle.erules.proofs.Answering.{ends_weaker}
-use Rattle.erules.proofs.Steps.{slice_of}
-use Rattle.deliveries.specs.Turn.{Led, when_met}
+use Rattle.eval_rules.specs.Answered.{OnEnd}
+use Rattle.eval_rules.specs.Rules.{enters, Items}
+use Rattle.eval_rules.specs.View.{at}
+use Rattle.eval_rules.proofs.Answering.{ends_weaker}
+use Rattle.eval_rules.proofs.Steps.{slice_of}
+use Rattle.turn_deliveries.specs.Turn.{Led, when_met}
 use Rattle.turn.proofs.Waiting.{captured_fits, entered_there}
 use Rattle.turn.proofs.whens.run_by.Goals as goal
 

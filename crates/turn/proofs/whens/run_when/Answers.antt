@@ -1,10 +1,10 @@
 use Rattle.std.proofs.Common.{ap, ◌∙◌, subst}
 use Rattle.sends.specs.Vats.{ended}
 use Rattle.post.specs.DeliveryView.{when_of}
-use Rattle.erules.specs.Answered.{OnEnd}
-use Rattle.erules.specs.Doings.{behind, given_by}
-use Rattle.erules.specs.View.{at}
-use Rattle.deliveries.specs.Turn.{Led, when_met}
+use Rattle.eval_rules.specs.Answered.{OnEnd}
+use Rattle.eval_rules.specs.Doings.{behind, given_by}
+use Rattle.eval_rules.specs.View.{at}
+use Rattle.turn_deliveries.specs.Turn.{Led, when_met}
 use Rattle.turn.proofs.whens.run_when.Goals as goal
 
 pub returns : goal.returns

@@ -1,5 +1,5 @@
 use Rattle.std.proofs.Common.{◌≡◌, ◌++◌, take, map}
-use Rattle.worldcells.specs.Theory.{kepts_of}
+use Rattle.world_cells.specs.Theory.{kepts_of}
 use Rattle.undo.proofs.records.add_keys.Given as goal
 
 -- the cells of the records so far are added

@@ -1,6 +1,6 @@
 use Rattle.std.proofs.Common.{◌<◌, length, sym, ap, ◌∙◌, arith}
-use Rattle.worldcells.specs.View.{is_ready}
-use Rattle.worldcells.specs.Theory.{kept_of}
+use Rattle.world_cells.specs.View.{is_ready}
+use Rattle.world_cells.specs.Theory.{kept_of}
 use Rattle.undo.proofs.Looping.{made_more}
 use Rattle.undo.proofs.records.make_rooms.Goals as goal
 

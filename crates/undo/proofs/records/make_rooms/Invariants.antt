@@ -1,7 +1,7 @@
 use Rattle.std.proofs.Common.{◌≡◌, true, take}
 use Rattle.ids.specs.declared.cells.CellKey.{CellKey}
-use Rattle.worldcells.specs.View.{seen_of_world, is_ready, swaps_of}
-use Rattle.worldcells.specs.Theory.{kepts_of, all_pass}
+use Rattle.world_cells.specs.View.{seen_of_world, is_ready, swaps_of}
+use Rattle.world_cells.specs.Theory.{kepts_of, all_pass}
 use Rattle.undo.proofs.records.make_rooms.Given as goal
 
 abbrev pub invariant-loop-record : goal.invariant-loop-record

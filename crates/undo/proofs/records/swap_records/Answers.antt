@@ -1,7 +1,7 @@
 use Rattle.std.proofs.Common.{◌∙◌, ◌<◌, ◌^◌, length, get_or, ap, arith}
-use Rattle.worldcells.specs.Records.{record_of}
-use Rattle.worldcells.specs.View.{seen_of_world, is_ready, swaps_of}
-use Rattle.worldcells.specs.Theory.{numbered, state_of_world, kept_of}
+use Rattle.world_cells.specs.Records.{record_of}
+use Rattle.world_cells.specs.View.{seen_of_world, is_ready, swaps_of}
+use Rattle.world_cells.specs.Theory.{numbered, state_of_world, kept_of}
 use Rattle.undo.proofs.Looping.{rest_more, done_more, fits_more, held, counted_more}
 use Rattle.undo.proofs.records.swap_records.Goals as goal
 

@@ -1,7 +1,7 @@
 use Rattle.std.proofs.Common.{◌≡◌, true, ◌++◌, take, drop}
 use Rattle.history.specs.Records.{swap_state, swap_record}
-use Rattle.worldcells.specs.View.{is_ready, swaps_of, RisesBy}
-use Rattle.worldcells.specs.Theory.{cells, state_of_world, kepts_of, all_pass}
+use Rattle.world_cells.specs.View.{is_ready, swaps_of, RisesBy}
+use Rattle.world_cells.specs.Theory.{cells, state_of_world, kepts_of, all_pass}
 use Rattle.undo.proofs.records.swap_records.Given as goal
 
 abbrev pub invariant-loop-record : goal.invariant-loop-record

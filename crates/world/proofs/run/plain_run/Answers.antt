@@ -1,9 +1,9 @@
 use Rattle.std.proofs.Common.{◌≡◌, ◌+◌, List, [], drop, map, reverse, ap, subst}
 use Rattle.std.proofs.lemmas.List.{drop_all}
-use Rattle.worldcells.specs.EventView.{event_of}
-use Rattle.worldcells.specs.Events.{Event}
-use Rattle.worldcells.specs.View.{world_of}
-use Rattle.ordering.proofs.Runs.{runs_in_order}
+use Rattle.world_cells.specs.EventView.{event_of}
+use Rattle.world_cells.specs.Events.{Event}
+use Rattle.world_cells.specs.View.{world_of}
+use Rattle.event_ordering.proofs.Runs.{runs_in_order}
 use Rattle.world.proofs.Going.{Joined, joined_start, joined_step, joined_end, tells_run, from_here}
 use Rattle.world.proofs.run.plain_run.Goals as goal
 

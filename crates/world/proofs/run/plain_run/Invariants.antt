@@ -1,6 +1,6 @@
 use Rattle.std.proofs.Common.{drop, map}
-use Rattle.worldcells.specs.EventView.{event_of}
-use Rattle.worldcells.specs.View.{world_of}
+use Rattle.world_cells.specs.EventView.{event_of}
+use Rattle.world_cells.specs.View.{world_of}
 use Rattle.world.proofs.Going.{Joined}
 use Rattle.world.proofs.run.plain_run.Given as goal
 

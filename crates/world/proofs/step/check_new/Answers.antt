@@ -1,8 +1,8 @@
 use Rattle.std.proofs.Common.{inl, inr, ◌<◌, length, map, arith}
 use Rattle.std.proofs.lemmas.List.{length-map}
 use Rattle.std.proofs.lemmas.Result.{err_from_is_err_and}
-use Rattle.erules.specs.OutboxView.{letter_of}
-use Rattle.worldcells.specs.View.{world_of}
+use Rattle.eval_rules.specs.OutboxView.{letter_of}
+use Rattle.world_cells.specs.View.{world_of}
 use Rattle.world.proofs.Numbering.{left_start, left_more, left_never}
 use Rattle.world.proofs.step.check_new.Goals as goal
 

@@ -1,6 +1,6 @@
 use Rattle.std.proofs.Common.{map}
-use Rattle.erules.specs.OutboxView.{letter_of}
-use Rattle.worldcells.specs.View.{world_of}
+use Rattle.eval_rules.specs.OutboxView.{letter_of}
+use Rattle.world_cells.specs.View.{world_of}
 use Rattle.world.proofs.Numbering.{Left}
 use Rattle.world.proofs.step.check_new.Given as goal
 

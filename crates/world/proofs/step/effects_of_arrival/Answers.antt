@@ -1,7 +1,7 @@
 use Rattle.std.proofs.Common.{[], refl, ap, sym, ◌∙◌}
 use Rattle.std.specs.Option.{option_map}
 use Rattle.post.specs.MessageView.{message_of}
-use Rattle.worldcells.specs.World.{message_in}
+use Rattle.world_cells.specs.World.{message_in}
 use Rattle.event.specs.Events.{arrives, moved_foot}
 use Rattle.event.proofs.Noted.{quietly}
 use Rattle.world.proofs.step.effects_of_arrival.Goals as goal

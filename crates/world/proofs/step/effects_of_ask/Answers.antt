@@ -1,6 +1,6 @@
 use Rattle.std.proofs.Common.{refl, ap, sym}
 use Rattle.code.specs.View.{trees_of_codes}
-use Rattle.worldcells.specs.World.{vat_in}
+use Rattle.world_cells.specs.World.{vat_in}
 use Rattle.event.specs.Events.{ask_foot, asks}
 use Rattle.event.proofs.Noted.{quietly}
 use Rattle.world.proofs.step.effects_of_ask.Goals as goal

@@ -1,8 +1,8 @@
 use Rattle.std.proofs.Common.{refl, sym, ap, ◌∙◌}
 use Rattle.std.proofs.lemmas.Result.{err_from_is_err_and}
-use Rattle.scopes.specs.Scope.{own_names_in}
+use Rattle.kernele_scopes.specs.Scope.{own_names_in}
 use Rattle.code.specs.View.{trees_of_codes}
-use Rattle.worldcells.specs.View.{world_of}
+use Rattle.world_cells.specs.View.{world_of}
 use Rattle.event.specs.Events.{birth_foot, births}
 use Rattle.event.proofs.Noted.{quietly}
 use Rattle.world.proofs.Impossible.{tells_unnamed}

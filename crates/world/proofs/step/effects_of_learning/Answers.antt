@@ -1,7 +1,7 @@
 use Rattle.std.proofs.Common.{subst}
 use Rattle.heap.specs.State.{State}
 use Rattle.post.specs.MessageView.{published_of}
-use Rattle.worldcells.specs.View.{world_of}
+use Rattle.world_cells.specs.View.{world_of}
 use Rattle.event.specs.Events.{learn_foot}
 use Rattle.event.specs.Learning.{Learns}
 use Rattle.world.proofs.Stepping.{learns_happen}

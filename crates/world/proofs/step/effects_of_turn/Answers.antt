@@ -1,11 +1,11 @@
 use Rattle.std.proofs.Common.{◌≡◌, List, map, ap, subst, ◌∙◌}
 use Rattle.std.proofs.lemmas.Result.{err_from_is_err_and}
-use Rattle.deliveries.specs.Turn.{Found}
-use Rattle.erules.specs.OutboxView.{letter_of}
-use Rattle.erules.specs.declared.outbox.Letter.{Letter}
+use Rattle.turn_deliveries.specs.Turn.{Found}
+use Rattle.eval_rules.specs.OutboxView.{letter_of}
+use Rattle.eval_rules.specs.declared.outbox.Letter.{Letter}
 use Rattle.event.specs.Events.{AreNew, letters_from}
-use Rattle.worldcells.specs.View.{State, world_of}
-use Rattle.worldcells.specs.World.{World, vat_state}
+use Rattle.world_cells.specs.View.{State, world_of}
+use Rattle.world_cells.specs.World.{World, vat_state}
 use Rattle.world.specs.Steps.{RunsAt}
 use Rattle.world.proofs.Stepping.{turn_done, tells_old}
 use Rattle.world.proofs.step.effects_of_turn.Goals as goal

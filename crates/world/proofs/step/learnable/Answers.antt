@@ -1,6 +1,6 @@
 use Rattle.std.proofs.Common.{ap, sym, ◌∙◌}
 use Rattle.std.proofs.lemmas.Bool.{false≢true}
-use Rattle.worldcells.specs.World.{published_in}
+use Rattle.world_cells.specs.World.{published_in}
 use Rattle.world.proofs.step.learnable.Goals as goal
 
 pub returns-then-not-is_open-clause-err : goal.returns-then-not-is_open-clause-err

@@ -1,7 +1,7 @@
 use Rattle.std.proofs.Common.{ap, sym}
 use Rattle.post.specs.MessageView.{vat_of}
-use Rattle.worldcells.specs.View.{world_of}
-use Rattle.worldcells.specs.World.{vat_in}
+use Rattle.world_cells.specs.View.{world_of}
+use Rattle.world_cells.specs.World.{vat_in}
 use Rattle.event.proofs.Naming.{numbers_none, numbers_more, numbers_all}
 use Rattle.world.proofs.Naming.{not_named}
 use Rattle.world.proofs.step.numbers_of.Goals as goal

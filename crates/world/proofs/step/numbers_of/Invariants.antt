@@ -1,5 +1,5 @@
 use Rattle.std.proofs.Common.{take}
-use Rattle.worldcells.specs.View.{world_of}
+use Rattle.world_cells.specs.View.{world_of}
 use Rattle.event.specs.Naming.{Numbers}
 use Rattle.world.proofs.step.numbers_of.Given as goal
 

@@ -1,7 +1,7 @@
 use Rattle.std.proofs.Common.{ap, subst, ◌∙◌}
 use Rattle.std.proofs.lemmas.Result.{IfOk-weaker}
 use Rattle.std.specs.Arc.{arc_value}
-use Rattle.deliveries.specs.Outcomes.{found_of}
+use Rattle.turn_deliveries.specs.Outcomes.{found_of}
 use Rattle.heap.specs.Found.{Found}
 use Rattle.heap.specs.View.{state_of}
 use Rattle.turn.specs.declared.ticket.Out.{Out}

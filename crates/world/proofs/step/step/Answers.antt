@@ -2,9 +2,9 @@ use Rattle.std.proofs.Common.{◌≡◌, ap, ◌∙◌}
 use Rattle.std.proofs.Math.Logic.{∥∥₁_map}
 use Rattle.history.specs.Records.{contents, swap_state}
 use Rattle.history.proofs.Exchanges.{contents_after}
-use Rattle.worldcells.specs.EventView.{event_of}
-use Rattle.worldcells.specs.Theory.{cells, kepts_of, numbered, state_of_world}
-use Rattle.worldcells.specs.View.{seen_of_world}
+use Rattle.world_cells.specs.EventView.{event_of}
+use Rattle.world_cells.specs.Theory.{cells, kepts_of, numbered, state_of_world}
+use Rattle.world_cells.specs.View.{seen_of_world}
 use Rattle.event.specs.Events.{noted_events}
 use Rattle.event.proofs.Law.{noted_laws}
 use Rattle.undo.proofs.Positions.{on_err}

@@ -2,13 +2,13 @@ use Rattle.std.proofs.Common.{◌≡◌, ℕ, ◌∙◌, ap, arith, subst, Optio
 use Rattle.std.specs.Prelude.{slice_set}
 use Rattle.crossbeam_utils.specs.Seq.{cell_view}
 use Rattle.ids.specs.declared.names.EventName.{EventName}
-use Rattle.worldcells.specs.Events.{Event}
+use Rattle.world_cells.specs.Events.{Event}
 use Rattle.book.specs.BookView.{book_of}
-use Rattle.pact.specs.declared.Act.{Act}
-use Rattle.pact.specs.Agree.{after, entered_by, knower}
+use Rattle.bench_pact.specs.declared.Act.{Act}
+use Rattle.bench_pact.specs.Agree.{after, entered_by, knower}
 use Rattle.bench.specs.Author.{Obeys}
 use Rattle.bench.specs.DeskView.{Desked}
-use Rattle.crew.specs.Work.{is_turn}
+use Rattle.book_crew.specs.Work.{is_turn}
 use Rattle.bench.proofs.Acts.{Entering, entering, mark_enters_none}
 use Rattle.bench.proofs.Agrees.{desk_entered, counted_more, counted_same, few_events}
 use Rattle.bench.proofs.Moves.{journal_within, marked, one_open, refused_marked}

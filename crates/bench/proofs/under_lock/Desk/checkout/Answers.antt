@@ -1,19 +1,19 @@
 use Rattle.std.proofs.Common.{◌≡◌, ℕ, ◌∙◌, ap, arith, subst, refl}
 use Rattle.std.specs.Prelude.{slice_set}
 use Rattle.crossbeam_utils.specs.Seq.{cell_view}
-use Rattle.worldcells.specs.Events.{Event}
+use Rattle.world_cells.specs.Events.{Event}
 use Rattle.turn.specs.declared.ticket.Out.{Out}
 use Rattle.turn.specs.Tasks.{task_of}
 use Rattle.book.specs.Books.{Book}
 use Rattle.book.specs.BookView.{book_of}
 use Rattle.book.specs.Calls.{lent_of}
-use Rattle.pact.specs.Agree.{after, knower}
-use Rattle.pact.specs.declared.Act.TheVariants.{Opens}
+use Rattle.bench_pact.specs.Agree.{after, knower}
+use Rattle.bench_pact.specs.declared.Act.TheVariants.{Opens}
 use Rattle.bench.specs.declared.pick.Pick.{Pick}
 use Rattle.bench.specs.declared.pick.Pick.TheVariants as pick
 use Rattle.bench.specs.Author.{Picks}
 use Rattle.bench.specs.DeskView.{Desked}
-use Rattle.crew.specs.Work.{is_turn}
+use Rattle.book_crew.specs.Work.{is_turn}
 use Rattle.bench.proofs.Acts.{Moving, moving}
 use Rattle.bench.proofs.Agrees.{desk_entered, desk_opened, rests_same, counted_more, counted_same, few_events}
 use Rattle.bench.proofs.Moves.{journal_within, one_open}

@@ -1,6 +1,6 @@
 use Rattle.std.proofs.Common.{◌∙◌, ap, sym, subst}
 use Rattle.ids.specs.declared.names.EventName.{EventName}
-use Rattle.worldcells.specs.Events.{Event}
+use Rattle.world_cells.specs.Events.{Event}
 use Rattle.turn.specs.declared.ticket.Ran.{Ran}
 use Rattle.book.specs.Calls.{Commits}
 use Rattle.bench.specs.Author.{turn_of}
@@ -12,7 +12,7 @@ use Rattle.book.specs.BookView.{book_of}
 use Rattle.desk.specs.Desks.{without}
 use Rattle.bench.proofs.Agrees.{desk_given, counted_more, few_events}
 use Rattle.bench.proofs.Moves.{grows, journal_within, one_open}
-use Rattle.crew.specs.Work.{is_turn}
+use Rattle.book_crew.specs.Work.{is_turn}
 use Rattle.bench.proofs.under_lock.Desk.give.Goals as goal
 
 pub last_event-given-requires : goal.last_event-given-requires

@@ -1,9 +1,9 @@
 use Rattle.std.proofs.Common.{◌∙◌, Option, Some, refl, ap, sym}
-use Rattle.scopes.specs.Scope.{checked_program}
+use Rattle.kernele_scopes.specs.Scope.{checked_program}
 use Rattle.post.specs.MessageView.{vat_of}
 use Rattle.kernele.specs.Tree.{Name}
 use Rattle.kernele.specs.View.{program_of}
-use Rattle.worldcells.specs.World.{Content, vat_in}
+use Rattle.world_cells.specs.World.{Content, vat_in}
 use Rattle.book.specs.BookView.{book_of}
 use Rattle.book.specs.Refusals.{Refusal, no_vat, ask_refusal_by, first, check_refusal, full_refusal}
 use Rattle.book.proofs.book.Book.admit_ask.Goals as goal

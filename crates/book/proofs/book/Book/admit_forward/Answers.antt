@@ -4,9 +4,9 @@ use Rattle.std.proofs.lemmas.Result.{err_from_is_err_and}
 use Rattle.history.specs.Records.{contents}
 use Rattle.post.specs.Messages.{waits_at}
 use Rattle.post.specs.MessageView.{message_of}
-use Rattle.worldcells.specs.Theory.{cells}
-use Rattle.worldcells.specs.View.{world_of}
-use Rattle.worldcells.specs.World.{World}
+use Rattle.world_cells.specs.Theory.{cells}
+use Rattle.world_cells.specs.View.{world_of}
+use Rattle.world_cells.specs.World.{World}
 use Rattle.event.specs.Forwarding.{onward_of, to_of}
 use Rattle.book.specs.BookView.{book_of}
 use Rattle.book.specs.Fault.{Tells}

@@ -3,10 +3,10 @@ use Rattle.std.proofs.lemmas.Result.{err_from_is_err_and}
 use Rattle.history.specs.Records.{contents}
 use Rattle.ids.specs.declared.cells.CellKey.TheVariants as key
 use Rattle.post.specs.MessageView.{message_of}
-use Rattle.worldcells.specs.Theory.{cells}
-use Rattle.worldcells.specs.View.{world_of}
+use Rattle.world_cells.specs.Theory.{cells}
+use Rattle.world_cells.specs.View.{world_of}
 use Rattle.post.specs.Messages.{Message}
-use Rattle.worldcells.specs.World.{World, message}
+use Rattle.world_cells.specs.World.{World, message}
 use Rattle.event.specs.ReadyView.{IsWay}
 use Rattle.event.specs.Walks.{found_by}
 use Rattle.book.specs.BookView.{book_of}

@@ -1,9 +1,9 @@
 use Rattle.std.proofs.Common.{ap, subst, sym, ◌∙◌}
 use Rattle.std.specs.Prelude.{IfOk}
 use Rattle.history.specs.Records.{contents}
-use Rattle.worldcells.specs.Theory.{cells}
-use Rattle.worldcells.specs.World.{World}
-use Rattle.agenda.specs.AgendaView.{NotedIn}
+use Rattle.world_cells.specs.Theory.{cells}
+use Rattle.world_cells.specs.World.{World}
+use Rattle.book_agenda.specs.AgendaView.{NotedIn}
 use Rattle.book.proofs.book.Book.agenda.Goals as goal
 
 pub returns-in-None-clause-noted : goal.returns-in-None-clause-noted

@@ -1,6 +1,6 @@
 use Rattle.std.proofs.Common.{[], refl}
 use Rattle.post.specs.MessageView.{message_of}
-use Rattle.worldcells.specs.Events.{arrive}
+use Rattle.world_cells.specs.Events.{arrive}
 use Rattle.event.specs.Events.{moved_foot}
 use Rattle.event.specs.Effects.{Happens}
 use Rattle.event.proofs.Noted.{quietly}

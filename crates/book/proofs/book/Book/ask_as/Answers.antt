@@ -2,7 +2,7 @@ use Rattle.std.proofs.Common.{refl, sym, subst}
 use Rattle.code.specs.View.{trees_of_codes}
 use Rattle.kernele.specs.View.{program_of}
 use Rattle.kernele.specs.Tree.{Name, Trees}
-use Rattle.worldcells.specs.Events.{ask}
+use Rattle.world_cells.specs.Events.{ask}
 use Rattle.ids.specs.declared.names.VatNo.{VatNo}
 use Rattle.event.specs.Events.{Does, ask_foot, asks}
 use Rattle.book.specs.BookView.{book_of}

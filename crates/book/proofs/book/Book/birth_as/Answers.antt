@@ -2,9 +2,9 @@ use Rattle.std.proofs.Common.{◌≡◌, ◌∙◌, List, None, refl, sym, ap, s
 use Rattle.code.specs.View.{trees_of_codes}
 use Rattle.kernele.specs.View.{program_of}
 use Rattle.kernele.specs.Tree.{Name, Trees}
-use Rattle.scopes.specs.Scope.{own_names_in}
-use Rattle.worldcells.specs.Events.{birth}
-use Rattle.worldcells.specs.Theory.{kepts_of}
+use Rattle.kernele_scopes.specs.Scope.{own_names_in}
+use Rattle.world_cells.specs.Events.{birth}
+use Rattle.world_cells.specs.Theory.{kepts_of}
 use Rattle.event.specs.Events.{birth_foot, births}
 use Rattle.book.specs.BookView.{book_of}
 use Rattle.event.specs.Effects.{Brings, Happens}

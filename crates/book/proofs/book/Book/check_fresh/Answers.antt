@@ -6,10 +6,10 @@ use Rattle.history.specs.Records.{contents}
 use Rattle.ids.specs.declared.cells.CellKey.TheVariants as key
 use Rattle.heap.specs.Found.{Found}
 use Rattle.post.specs.MessageView.{message_of}
-use Rattle.worldcells.specs.Theory.{cells}
-use Rattle.worldcells.specs.View.{world_of}
+use Rattle.world_cells.specs.Theory.{cells}
+use Rattle.world_cells.specs.View.{world_of}
 use Rattle.post.specs.Messages.{Message}
-use Rattle.worldcells.specs.World.{World, message, vat_state}
+use Rattle.world_cells.specs.World.{World, message, vat_state}
 use Rattle.event.specs.ReadyView.{IsWay}
 use Rattle.book.specs.BookView.{book_of}
 use Rattle.book.specs.Calls.{LeadsAsBefore}

@@ -4,10 +4,10 @@ use Rattle.history.specs.Records.{contents}
 use Rattle.ids.specs.declared.cells.CellKey.TheVariants as key
 use Rattle.desk.specs.DeskView.{out_of}
 use Rattle.post.specs.MessageView.{message_of}
-use Rattle.worldcells.specs.Theory.{cells}
-use Rattle.worldcells.specs.View.{world_of}
+use Rattle.world_cells.specs.Theory.{cells}
+use Rattle.world_cells.specs.View.{world_of}
 use Rattle.post.specs.Messages.{Message}
-use Rattle.worldcells.specs.World.{World}
+use Rattle.world_cells.specs.World.{World}
 use Rattle.book.specs.BookView.{book_of}
 use Rattle.book.specs.Calls.{lent_of}
 use Rattle.book.proofs.Committing.{is_copied, copied_if}

@@ -2,13 +2,13 @@ use Rattle.std.proofs.Common.{◌≡◌, List, [], Option, length, map, ap, sym,
 use Rattle.std.proofs.lemmas.List.{length-map}
 use Rattle.history.specs.Records.{contents}
 use Rattle.ids.specs.declared.cells.CellKey.{CellKey}
-use Rattle.agenda.specs.Agendas.{AlikeBut}
-use Rattle.agenda.specs.declared.agenda.Agenda.{Agenda}
-use Rattle.erules.specs.OutboxView.{note_of}
-use Rattle.erules.specs.declared.outbox.Note.{Note}
-use Rattle.worldcells.specs.Events.{with_notes}
-use Rattle.worldcells.specs.EventView.{event_of}
-use Rattle.worldcells.specs.Theory.{cells, kept_of, kepts_of}
+use Rattle.book_agenda.specs.Agendas.{AlikeBut}
+use Rattle.book_agenda.specs.declared.agenda.Agenda.{Agenda}
+use Rattle.eval_rules.specs.OutboxView.{note_of}
+use Rattle.eval_rules.specs.declared.outbox.Note.{Note}
+use Rattle.world_cells.specs.Events.{with_notes}
+use Rattle.world_cells.specs.EventView.{event_of}
+use Rattle.world_cells.specs.Theory.{cells, kept_of, kepts_of}
 use Rattle.journal.specs.Items.{entered}
 use Rattle.desk.specs.DeskView.{out_of}
 use Rattle.undo.specs.CoreView.{shown, state_of, swaps_of}

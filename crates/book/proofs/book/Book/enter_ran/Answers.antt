@@ -1,17 +1,17 @@
 use Rattle.std.proofs.Common.{rules, ◌≡◌, ◌∙◌, List, Option, length, map, refl, ap, sym, subst}
 use Rattle.ids.specs.declared.cells.CellKey.{CellKey}
-use Rattle.agenda.specs.Agendas.{AlikeBut}
-use Rattle.agenda.specs.declared.agenda.Agenda.{Agenda}
+use Rattle.book_agenda.specs.Agendas.{AlikeBut}
+use Rattle.book_agenda.specs.declared.agenda.Agenda.{Agenda}
 use Rattle.std.proofs.lemmas.List.{length-map}
 use Rattle.history.specs.Records.{contents}
 use Rattle.desk.specs.DeskView.{out_of}
 use Rattle.journal.specs.Items.{entered}
-use Rattle.erules.specs.Outbox.{Note}
-use Rattle.erules.specs.OutboxView.{note_of, outbox_of}
-use Rattle.worldcells.specs.Events as world
-use Rattle.worldcells.specs.Events.{Event, turn, with_notes}
-use Rattle.worldcells.specs.Theory.{cells, kept_of, kepts_of}
-use Rattle.worldcells.specs.View.{world_of, RisesBy}
+use Rattle.eval_rules.specs.Outbox.{Note}
+use Rattle.eval_rules.specs.OutboxView.{note_of, outbox_of}
+use Rattle.world_cells.specs.Events as world
+use Rattle.world_cells.specs.Events.{Event, turn, with_notes}
+use Rattle.world_cells.specs.Theory.{cells, kept_of, kepts_of}
+use Rattle.world_cells.specs.View.{world_of, RisesBy}
 use Rattle.undo.specs.CoreView.{shown, state_of, swaps_of}
 use Rattle.book.specs.BookView.{book_of}
 use Rattle.book.specs.Standing.{Stands}

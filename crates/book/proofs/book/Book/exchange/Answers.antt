@@ -1,7 +1,7 @@
 use Rattle.std.proofs.Common.{◌≡◌, ◌∙◌, ◌-◌, ◌+◌, ◌<◌, ◌≤◌, Bool, true, List, None, length, sym, ap, ap₂, subst, arith}
 use Rattle.std.specs.Prelude.{not, if◌then◌else◌}
 use Rattle.history.specs.Records.{State}
-use Rattle.worldcells.specs.Theory.{cells}
+use Rattle.world_cells.specs.Theory.{cells}
 use Rattle.journal.specs.Items.{Item, may_exchange, neighbours, exchanged}
 use Rattle.journal.specs.Lines.{lines_of}
 use Rattle.undo.specs.CoreView.{items_of, settled_of, state_of, shown}

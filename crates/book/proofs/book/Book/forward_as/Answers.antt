@@ -2,8 +2,8 @@ use Rattle.std.proofs.Common.{List, map, refl, subst}
 use Rattle.ids.specs.declared.names.PromId.{PromId}
 use Rattle.ids.specs.declared.cells.CellKey.TheVariants as key
 use Rattle.post.specs.MessageView.{message_of}
-use Rattle.worldcells.specs.Events.{forward}
-use Rattle.worldcells.specs.Theory.{kepts_of}
+use Rattle.world_cells.specs.Events.{forward}
+use Rattle.world_cells.specs.Theory.{kepts_of}
 use Rattle.event.specs.Events.{moved_foot}
 use Rattle.event.specs.Effects.{Brings, Happens}
 use Rattle.event.proofs.Noted.{quietly}

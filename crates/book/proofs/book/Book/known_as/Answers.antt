@@ -1,6 +1,6 @@
 use Rattle.book.specs.BookView.{book_of}
 use Rattle.std.proofs.Common.{sym, subst}
-use Rattle.agenda.specs.AgendaView.{NotedIn}
+use Rattle.book_agenda.specs.AgendaView.{NotedIn}
 use Rattle.undo.specs.CoreView.{state_of}
 use Rattle.book.specs.Books.{Book}
 use Rattle.book.proofs.Noting.{noted_some, known_told}

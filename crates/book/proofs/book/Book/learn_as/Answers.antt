@@ -2,7 +2,7 @@ use Rattle.std.proofs.Common.{◌≡◌, ◌∙◌, Some, None, ap, sym, subst}
 use Rattle.std.proofs.lemmas.Result.{IfOk-weaker, IfErr-weaker}
 use Rattle.kernele.specs.Tree.{Name}
 use Rattle.post.specs.MessageView.{vat_of}
-use Rattle.worldcells.specs.World.{vat_in, vat_named}
+use Rattle.world_cells.specs.World.{vat_in, vat_named}
 use Rattle.book.specs.BookView.{book_of}
 use Rattle.book.specs.Fault.{Tells}
 use Rattle.book.specs.Refusals.{no_vat}

@@ -2,9 +2,9 @@ use Rattle.std.proofs.Common.{List, ap, sym, subst}
 use Rattle.history.specs.Records as theory
 use Rattle.heap.specs.State.{State}
 use Rattle.post.specs.MessageView.{published_of}
-use Rattle.worldcells.specs.Events.{learn}
-use Rattle.worldcells.specs.World.{vat_state}
-use Rattle.worldcells.specs.Theory.{cells}
+use Rattle.world_cells.specs.Events.{learn}
+use Rattle.world_cells.specs.World.{vat_state}
+use Rattle.world_cells.specs.Theory.{cells}
 use Rattle.event.specs.Learning.{Learns}
 use Rattle.event.specs.Effects.{BringsLearnt, Happens}
 use Rattle.journal.specs.Items.{Item}

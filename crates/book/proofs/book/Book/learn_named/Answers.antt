@@ -2,10 +2,10 @@ use Rattle.std.proofs.Common.{◌≡◌, ◌∙◌, Some, None, ap, sym, subst}
 use Rattle.std.proofs.lemmas.Result.{IfOk-weaker, IfErr-weaker, on_ok_weaker, on_err_weaker}
 use Rattle.kernele.specs.Tree.{Name}
 use Rattle.post.specs.MessageView.{vat_of}
-use Rattle.worldcells.specs.Events.{learn}
-use Rattle.worldcells.specs.World.{vat_in, vat_named}
+use Rattle.world_cells.specs.Events.{learn}
+use Rattle.world_cells.specs.World.{vat_in, vat_named}
 use Rattle.event.specs.Events.{Foot}
-use Rattle.agenda.specs.Agendas.{KnownAs, can_learn}
+use Rattle.book_agenda.specs.Agendas.{KnownAs, can_learn}
 use Rattle.book.specs.Books.{Book}
 use Rattle.book.specs.BookView.{book_of, swaps_of}
 use Rattle.book.specs.Calls.{EntersNext}

@@ -2,8 +2,8 @@ use Rattle.std.proofs.Common.{◌≡◌, ◌∙◌, sym, ap, subst}
 use Rattle.history.specs.Records.{contents}
 use Rattle.post.specs.Messages.{Published}
 use Rattle.post.specs.MessageView.{published_of}
-use Rattle.worldcells.specs.Theory.{cells}
-use Rattle.worldcells.specs.View.{world_of}
+use Rattle.world_cells.specs.Theory.{cells}
+use Rattle.world_cells.specs.View.{world_of}
 use Rattle.book.specs.BookView.{book_of}
 use Rattle.book.specs.Calls.{CanLearn}
 use Rattle.book.proofs.Admitting.{closed_learning, unpublished_learning, some_learning, learns_it}

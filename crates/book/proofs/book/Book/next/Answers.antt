@@ -1,11 +1,11 @@
 use Rattle.std.proofs.Common.{◌≡◌, ap, ◌∙◌}
 use Rattle.history.specs.Records.{contents}
-use Rattle.worldcells.specs.Theory.{cells}
-use Rattle.worldcells.specs.View.{world_of}
+use Rattle.world_cells.specs.Theory.{cells}
+use Rattle.world_cells.specs.View.{world_of}
 use Rattle.desk.specs.DeskView.{out_of}
 use Rattle.book.specs.BookView.{book_of}
 use Rattle.std.proofs.Common.{sym, subst}
-use Rattle.agenda.specs.AgendaView.{NotedIn}
+use Rattle.book_agenda.specs.AgendaView.{NotedIn}
 use Rattle.undo.specs.CoreView.{state_of}
 use Rattle.book.specs.Books.{Book}
 use Rattle.book.proofs.Noting.{noted_some, first_told}

@@ -1,7 +1,7 @@
 use Rattle.std.proofs.Common.{◌∙◌, Some, ap, sym}
 use Rattle.kernele.specs.Tree.{Name}
 use Rattle.post.specs.MessageView.{vat_of}
-use Rattle.worldcells.specs.World.{vat_in}
+use Rattle.world_cells.specs.World.{vat_in}
 use Rattle.book.specs.BookView.{book_of}
 use Rattle.book.specs.Refusals.{no_vat}
 use Rattle.event.proofs.Naming.{numbers_more, numbers_all}

@@ -4,7 +4,7 @@ use Rattle.history.specs.Walks.{walk}
 use Rattle.history.specs.Records.{State, contents}
 use Rattle.ids.specs.declared.names.EventName.{EventName}
 use Rattle.ids.specs.declared.cells.CellKey.{CellKey}
-use Rattle.worldcells.specs.Theory.{cells}
+use Rattle.world_cells.specs.Theory.{cells}
 use Rattle.journal.specs.Items.{Item, records_at, swap_item}
 use Rattle.journal.specs.Lines.{lines_of}
 use Rattle.causality.specs.Journals.{IsJournal}
@@ -19,8 +19,8 @@ use Rattle.book.proofs.Choosing.{stands_journal, places_within, places_count}
 use Rattle.book.proofs.Entering.{stands_same}
 use Rattle.book.proofs.Redoing.{redone_stands, book_redone}
 use Rattle.book.specs.Calls.{redone}
-use Rattle.agenda.specs.Agendas.{AlikeBut}
-use Rattle.agenda.specs.declared.agenda.Agenda.{Agenda}
+use Rattle.book_agenda.specs.Agendas.{AlikeBut}
+use Rattle.book_agenda.specs.declared.agenda.Agenda.{Agenda}
 use Rattle.book.proofs.Noting.{Noted, noted_same, noted_next, redone_alike}
 use Rattle.book.proofs.Within.{within_same, within_marked}
 use Rattle.book.proofs.book.Book.redo.Goals as goal

@@ -2,7 +2,7 @@ use Rattle.std.proofs.Common.{◌≡◌, ◌≤◌, true, List, length, take, re
 use Rattle.std.specs.List.{AllByRecursion}
 use Rattle.std.proofs.lemmas.List.{length-map}
 use Rattle.history.specs.Records.{State}
-use Rattle.worldcells.specs.Theory.{cells}
+use Rattle.world_cells.specs.Theory.{cells}
 use Rattle.journal.specs.Items.{Item, item_of}
 use Rattle.undo.specs.CoreView.{settled_of}
 use Rattle.desk.specs.DeskView.{out_of}

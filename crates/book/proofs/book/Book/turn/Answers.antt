@@ -2,8 +2,8 @@ use Rattle.std.proofs.Common.{◌≡◌, ◌∙◌, inr, refl, sym, ap, subst}
 use Rattle.desk.specs.DeskView.{out_of}
 use Rattle.post.specs.MessageView.{message_of}
 use Rattle.event.specs.ReadyView.{IsWay}
-use Rattle.deliveries.specs.Outcomes.{told_of}
-use Rattle.deliveries.specs.declared.outcome.Outcome.{Outcome}
+use Rattle.turn_deliveries.specs.Outcomes.{told_of}
+use Rattle.turn_deliveries.specs.declared.outcome.Outcome.{Outcome}
 use Rattle.turn.specs.Tasks.{task_of}
 use Rattle.turn.specs.declared.ticket.Out.{Out}
 use Rattle.turn.specs.declared.ticket.Task.{Task}

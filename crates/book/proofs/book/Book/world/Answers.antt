@@ -1,6 +1,6 @@
 use Rattle.std.proofs.Common.{ap, sym, subst, ◌∙◌}
 use Rattle.history.specs.Records.{State, contents}
-use Rattle.worldcells.specs.Theory.{cells}
+use Rattle.world_cells.specs.Theory.{cells}
 use Rattle.desk.specs.DeskView.{out_of}
 use Rattle.event.specs.Runs.{PlainRun}
 use Rattle.book.specs.BookView.{book_of}

@@ -1,7 +1,7 @@
 use Rattle.std.proofs.Common.{ap, sym, refl, subst, ℕ, Ok, Some}
 use Rattle.std.proofs.lemmas.Result.{err_from_is_err_and}
-use Rattle.commands.specs.Commands.{command_of}
-use Rattle.commands.specs.Words.{words_in}
+use Rattle.stepper_commands.specs.Commands.{command_of}
+use Rattle.stepper_commands.specs.Words.{words_in}
 use Rattle.stepper.specs.Replies.{arrive_moves, forward_moves, turn_moves, script_lines}
 use Rattle.stepper.specs.Taking.{StopsWithin}
 use Rattle.stepper.proofs.Answered.{happens_as}

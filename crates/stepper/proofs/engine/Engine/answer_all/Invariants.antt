@@ -1,6 +1,6 @@
 -- The commands that were taken are answered. No more lines are taken than can be counted.
 use Rattle.std.proofs.Common.{◌-◌, ◌^◌}
-use Rattle.streams.specs.Lines.{lines_taken}
+use Rattle.stepper_streams.specs.Lines.{lines_taken}
 use Rattle.stepper.proofs.Going.{Going}
 use Rattle.stepper.proofs.engine.Engine.answer_all.Given as goal
 

@@ -1,6 +1,6 @@
 use Rattle.std.proofs.Common.{refl, sym, ap, subst, ◌∙◌, Ok}
 use Rattle.std.specs.Prelude.{MatchResult}
-use Rattle.commands.specs.Commands.{reading_of}
+use Rattle.stepper_commands.specs.Commands.{reading_of}
 use Rattle.stepper.specs.Replies.{script_lines}
 use Rattle.stepper.specs.Taking.{Does, StopsWithin}
 use Rattle.stepper.proofs.Doing.{does_nothing, does_refuse}

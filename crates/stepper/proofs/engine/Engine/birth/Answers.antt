@@ -1,6 +1,6 @@
 use Rattle.std.proofs.Common.{refl}
 use Rattle.book.specs.BookView.{book_of}
-use Rattle.commands.specs.Words.{words_in}
+use Rattle.stepper_commands.specs.Words.{words_in}
 use Rattle.stepper.specs.Engine.{Happens}
 use Rattle.stepper.specs.Replies.{AnswersBirth}
 use Rattle.stepper.proofs.Answered.{refuses}

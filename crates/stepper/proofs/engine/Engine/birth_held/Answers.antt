@@ -1,6 +1,6 @@
 use Rattle.std.proofs.Common.{refl, subst, ◌∙◌, Ok, List, ℕ}
-use Rattle.commands.specs.Words.{words_in}
-use Rattle.commands.specs.ScriptView.{IsHeld}
+use Rattle.stepper_commands.specs.Words.{words_in}
+use Rattle.stepper_commands.specs.ScriptView.{IsHeld}
 use Rattle.stepper.specs.Replies.{AnswersBirth, birth_without_memory}
 use Rattle.stepper.proofs.Answered.{happens_as, refuses}
 use Rattle.stepper.proofs.engine.Engine.birth_held.Goals as goal

@@ -1,6 +1,6 @@
 use Rattle.std.proofs.Common.{◌≡◌, refl, sym, subst, rules}
 use Rattle.book.specs.BookView.{book_of}
-use Rattle.commands.specs.Commands as commands
+use Rattle.stepper_commands.specs.Commands as commands
 use Rattle.stepper.specs.Engine.{Happens}
 use Rattle.stepper.specs.Replies.{Answers}
 use Rattle.stepper.proofs.Answered.{accepts, refuses}

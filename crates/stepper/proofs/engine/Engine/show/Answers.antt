@@ -1,6 +1,6 @@
 use Rattle.std.proofs.Common.{refl, subst}
-use Rattle.printing.specs.Show.{Shows}
-use Rattle.printing.specs.PictureView.{picture_text}
+use Rattle.stepper_printing.specs.Show.{Shows}
+use Rattle.stepper_printing.specs.PictureView.{picture_text}
 use Rattle.stepper.specs.Replies.{shown, show_without_memory}
 use Rattle.stepper.proofs.Answered.{accepts, refuses}
 use Rattle.stepper.proofs.engine.Engine.show.Goals as goal

@@ -1,6 +1,6 @@
 use Rattle.std.proofs.Common.{refl, subst, List, ◌∙◌}
 use Rattle.ids.specs.declared.names.EventName.{EventName}
-use Rattle.commands.specs.Commands as commands
+use Rattle.stepper_commands.specs.Commands as commands
 use Rattle.stepper.specs.Replies.{Answers, undo_without_memory}
 use Rattle.stepper.proofs.Answered.{refuses, happens_as}
 use Rattle.stepper.proofs.engine.Engine.undo_named.Goals as goal

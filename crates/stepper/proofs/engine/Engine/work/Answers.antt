@@ -3,8 +3,8 @@ use Rattle.book.specs.BookView.{book_of}
 use Rattle.book.specs.Books as books
 use Rattle.book.specs.Fault.{work_text}
 use Rattle.book.specs.declared.book.Book.{Book}
-use Rattle.commands.specs.Commands as commands
-use Rattle.crew.specs.Work.{Worked, RefusesWork}
+use Rattle.stepper_commands.specs.Commands as commands
+use Rattle.book_crew.specs.Work.{Worked, RefusesWork}
 use Rattle.stepper.specs.Replies.{Answers, refused, worked, work_refused}
 use Rattle.stepper.proofs.Answered.{accepts, refuses}
 use Rattle.stepper.proofs.engine.Engine.work.Goals as goal

@@ -1,5 +1,5 @@
 use Rattle.std.proofs.Common.{sym}
-use Rattle.streams.proofs.Giving.{tells_both}
+use Rattle.stepper_streams.proofs.Giving.{tells_both}
 use Rattle.stepper.proofs.Answered.{or_true}
 use Rattle.stepper.proofs.reply.Written.refuse_work.Goals as goal
 

@@ -1,5 +1,5 @@
 use Rattle.std.proofs.Common.{ap, subst, sym, ◌∙◌}
-use Rattle.deliveries.specs.declared.outcome.Outcome.{Outcome}
+use Rattle.turn_deliveries.specs.declared.outcome.Outcome.{Outcome}
 use Rattle.heap.specs.Found.{Found}
 use Rattle.heap.specs.View.{state_of}
 use Rattle.std.specs.Arc.{arc_value}

@@ -2,11 +2,11 @@ use Rattle.std.proofs.Common.{◌≡◌, ◌+◌, ◌%◌, ◌^◌, ◌==◌, tr
 use Rattle.std.proofs.lemmas.List.{length-map}
 use Rattle.history.specs.Walks.{step_at}
 use Rattle.history.specs.Records.{State}
-use Rattle.erules.specs.OutboxView.{note_of}
-use Rattle.worldcells.specs.Events.{Noted, with_notes}
-use Rattle.worldcells.specs.EventView.{event_of}
-use Rattle.worldcells.specs.View.{is_ready}
-use Rattle.worldcells.specs.Theory.{cells, numbered, state_of_world, kept_of, kepts_of, all_pass}
+use Rattle.eval_rules.specs.OutboxView.{note_of}
+use Rattle.world_cells.specs.Events.{Noted, with_notes}
+use Rattle.world_cells.specs.EventView.{event_of}
+use Rattle.world_cells.specs.View.{is_ready}
+use Rattle.world_cells.specs.Theory.{cells, numbered, state_of_world, kept_of, kepts_of, all_pass}
 use Rattle.journal.specs.Journals.{items_in, settled_item}
 use Rattle.undo.specs.CoreView.{items_of, shown, state_of}
 use Rattle.journal.specs.Items.{Item, item_of, keys_at, pass, records_at, swap_item}
@@ -16,8 +16,8 @@ use Rattle.undo.proofs.Behind.{step_behind, ready_behind, count_behind, entered_
 use Rattle.undo.proofs.Looping.{both_true}
 use Rattle.undo.proofs.Positions.{on_err, entered_is, ready_last, count_last}
 use Rattle.ids.specs.declared.names.EventName.{EventName}
-use Rattle.links.specs.Places.{place_of, ArePlaces}
-use Rattle.links.specs.Followers.{Follows}
+use Rattle.journal_links.specs.Places.{place_of, ArePlaces}
+use Rattle.journal_links.specs.Followers.{Follows}
 use Rattle.journal.specs.Items.{lasts_of}
 use Rattle.journal.specs.Links.{AreFollowers, names_of}
 use Rattle.journal.specs.declared.entry.Touched.{Touched}

@@ -1,6 +1,6 @@
 use Rattle.std.proofs.Common.{◌≡◌, ◌+◌, ◌-◌, ◌<◌, ◌++◌, List, length, map, get_or, sym, ap, ap₂, ◌∙◌, subst, arith}
 use Rattle.std.proofs.lemmas.List.{length-append, length-map}
-use Rattle.links.specs.Places.{HasRoom}
+use Rattle.journal_links.specs.Places.{HasRoom}
 use Rattle.journal.specs.declared.entry.Entry.{Entry}
 use Rattle.undo.specs.CoreView.{state_of}
 use Rattle.journal.specs.Items.{item_of, may_exchange}

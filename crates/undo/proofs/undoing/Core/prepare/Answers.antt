@@ -1,8 +1,8 @@
 use Rattle.std.proofs.Common.{◌≡◌, ◌+◌, ◌-◌, ◌<◌, ◌≤◌, true, length, get_or, map, sym, ap, ◌∙◌, arith}
 use Rattle.std.proofs.lemmas.List.{length-append, length-map}
 use Rattle.std.proofs.lemmas.List.Elements.{All-get_or}
-use Rattle.worldcells.specs.View.{is_ready}
-use Rattle.worldcells.specs.Theory.{numbered, kepts_of, all_pass}
+use Rattle.world_cells.specs.View.{is_ready}
+use Rattle.world_cells.specs.Theory.{numbered, kepts_of, all_pass}
 use Rattle.undo.specs.CoreView.{items_of, ready_of}
 use Rattle.journal.specs.Items.{item_of, keys_at, pass}
 use Rattle.journal.specs.Journals.{items_in, settled_item}

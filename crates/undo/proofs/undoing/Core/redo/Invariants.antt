@@ -1,6 +1,6 @@
 use Rattle.std.proofs.Common.{◌≡◌, ℕ, true, take, drop}
 use Rattle.history.specs.Walks.{walk}
-use Rattle.worldcells.specs.View.{RisesBy}
+use Rattle.world_cells.specs.View.{RisesBy}
 use Rattle.undo.specs.CoreView.{items_of, settled_of, shown, ready_of, swaps_of}
 use Rattle.journal.specs.Items.{swap_item, keys_at, records_at}
 use Rattle.undo.proofs.undoing.Core.redo.Given as goal

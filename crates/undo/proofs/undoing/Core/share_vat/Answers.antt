@@ -1,5 +1,5 @@
 use Rattle.std.proofs.Common.{ap}
-use Rattle.worldcells.specs.Theory.{numbered}
+use Rattle.world_cells.specs.Theory.{numbered}
 use Rattle.undo.specs.CoreView.{items_of}
 use Rattle.undo.proofs.undoing.Core.share_vat.Goals as goal
 

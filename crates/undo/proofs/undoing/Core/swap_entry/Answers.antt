@@ -2,7 +2,7 @@ use Rattle.std.proofs.Common.{◌≡◌, ◌+◌, ◌-◌, ◌<◌, ◌%◌, ◌
 use Rattle.std.proofs.lemmas.List.{length-map}
 use Rattle.history.specs.Records.{State}
 use Rattle.history.specs.Walks.{step_at}
-use Rattle.worldcells.specs.Theory.{cells, state_of_world, all_pass}
+use Rattle.world_cells.specs.Theory.{cells, state_of_world, all_pass}
 use Rattle.journal.specs.Items.{Item, item_of, is_live, swap_item, keys_at, all_ready, records_at}
 use Rattle.journal.specs.Journals.{settled_item}
 use Rattle.undo.specs.CoreView.{ready_of, swaps_of}

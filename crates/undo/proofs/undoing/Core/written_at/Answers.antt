@@ -2,7 +2,7 @@ use Rattle.std.proofs.Common.{◌≡◌, ◌+◌, ◌-◌, ◌<◌, ◌≤◌, �
 use Rattle.std.proofs.lemmas.List.{length-append, length-map}
 use Rattle.std.proofs.lemmas.List.Elements.{All-get_or}
 use Rattle.ids.specs.declared.cells.CellKey.{CellKey}
-use Rattle.worldcells.specs.Theory.{kepts_of}
+use Rattle.world_cells.specs.Theory.{kepts_of}
 use Rattle.undo.specs.CoreView.{items_of}
 use Rattle.undo.specs.Written.{written_at}
 use Rattle.journal.specs.Items.{item_of, keys_at}

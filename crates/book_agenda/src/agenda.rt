@@ -1,0 +1,642 @@
+// What may be done next.
+ghost use Rattle.std.specs.Prelude.{◌≡◌, ◌++◌, ◌&&◌, cond, nat_eq, Some, is_none, is_some, IfOk, OnOk};
+ghost use Rattle.std.specs.Option.{option_to_list};
+ghost use Rattle.std.specs.Ordering.{is_eq};
+ghost use Rattle.std.specs.BTreeMap.{IsOrdered as IsOrderedMap};
+ghost use Rattle.std.specs.BTreeSet.{contains, IsOrdered};
+ghost use Rattle.ids.specs.Cells.{message_cmp, promise_cmp, vat_cmp};
+ghost use Rattle.ids.specs.declared.names.VatNo.{VatNo};
+ghost use Rattle.ids.specs.declared.names.MsgId.{MsgId};
+ghost use Rattle.heap.specs.State.{viewed, view_cell};
+ghost use Rattle.heap.specs.View.{state_of, view_of};
+ghost use Rattle.post.specs.MessageView.{message_of};
+ghost use Rattle.world_cells.specs.View.{world_of};
+ghost use Rattle.world_cells.specs.World.{World as Cells, message_of as message_in_world, vat_state};
+ghost use Rattle.values.specs.View.{val_of};
+ghost use Rattle.post.specs.DeliveryView.{delivery_of};
+ghost use Rattle.post.specs.Messages.{done_in};
+ghost use Rattle.event.specs.Walks.{is_there as is_there_of};
+ghost use Rattle.event.specs.Ready.{first_undone, unready_at};
+ghost use Rattle.book_agenda.specs.Agendas.{AlikeBut, KnownAs, is_open as is_open_of, open_view, can_learn as can_learn_of};
+ghost use Rattle.book_agenda.specs.Ways.{only_turns, stays as stays_of, waits_here, waits_in};
+ghost use Rattle.book_agenda.specs.Enabled.{Enabled, First};
+ghost use Rattle.book_agenda.specs.AgendaView.{out_at};
+ghost use Rattle.book_agenda.specs.Found.{step_at as step_at_vat, message_step as message_step_of, step_by as step_by_way, learn_step};
+
+use crate::waiting::{Waiting, Waits};
+use desk::desk::Desk;
+use event::forwarding::onward;
+use event::ready::{Delay, check_ready};
+use heap::state::{VatState, View};
+use ids::cells::CellKey;
+use ids::names::{EventName, MsgId, PromId, VatNo};
+use post::delivery::Delivery;
+use post::message::{Message, Place};
+use std::alloc::{AllocError, Global};
+use std::collections::BTreeSet;
+use values::value::Value;
+use world_cells::world::World;
+
+/// Something that may be done.
+#[derive(Clone, Copy)]
+pub enum Step {
+    /// A message on its way arrives.
+    Arrive(MsgId),
+    /// A message goes on to the vat to which its target leads.
+    Forward(MsgId),
+    /// A message that is ready has its turn.
+    Turn(MsgId),
+    /// A vat learns what a promise was published as.
+    Learn(VatNo, PromId),
+}
+
+/// A promise that is open in a vat's view.
+#[derive(Clone, Copy, PartialEq, Eq, PartialOrd, Ord)]
+struct Open {
+    promise: PromId,
+    vat: VatNo,
+}
+
+/// A promise that a vat can learn of.
+#[derive(Clone, Copy, PartialEq, Eq, PartialOrd, Ord)]
+struct Known {
+    vat: VatNo,
+    promise: PromId,
+}
+
+/// A message that can do nothing but have its turn where it is, and one that it comes after.
+#[derive(Clone, Copy, PartialEq, Eq, PartialOrd, Ord)]
+struct Follower {
+    before: MsgId,
+    message: MsgId,
+}
+
+/// The messages of a world that are not done, by how they wait, the promises that are open in views, and those of them that were
+/// published.
+#[derive(Drop)]
+pub struct Agenda {
+    waiting: Waiting,
+    /// By the message that they come after: how such a one waits is looked at again when that one changes.
+    followers: BTreeSet<Follower>,
+    open: BTreeSet<Open>,
+    known: BTreeSet<Known>,
+}
+
+impl Agenda {
+    ghost use Rattle.book_agenda.specs.AgendaView.{open_cmp, known_cmp, has_follower, has_open, has_known, is_among, is_in, same_view, NotedIn, Follows, FollowsEach, Renews, Places, PlacesAll, NotesMessage, NotesViews, NotesCell};
+    ghost use Rattle.book_agenda.specs.Found.{front_step, front_steps, message_steps, learn_steps, first_in};
+
+    /// What is not done in this world. Fails only for want of memory.
+    pub fn new(alloc: Global, world: &World) -> Result<Agenda, AllocError>
+        ensures { IfOk result (NotedIn (world_of world.now)) }
+    {
+        let mut agenda = Agenda {
+            waiting: Waiting::new(alloc),
+            followers: BTreeSet::new(alloc),
+            open: BTreeSet::new(alloc),
+            known: BTreeSet::new(alloc),
+        };
+        agenda.note_messages(alloc, world)?;
+        agenda.note_vats(alloc, world)?;
+        Ok(agenda)
+    }
+
+    /// Notes what the cells hold now that were written. Fails only for want of memory, and is then of no use.
+    pub fn note(
+        &mut self,
+        alloc: Global,
+        world: &World,
+        written: &[CellKey],
+    ) -> Result<(), AllocError>
+        ensures { (before : Cells) → NotedIn before self.old → AlikeBut written.now before (world_of world.now) → OnOk result (NotedIn (world_of world.now) self.new) }
+    {
+        for key in written {
+            self.note_cell(alloc, world, key)?;
+        }
+        Ok(())
+    }
+
+    /// Notes what a cell holds.
+    fn note_cell(&mut self, alloc: Global, world: &World, key: &CellKey) -> Result<(), AllocError>
+        ensures { OnOk result (NotesCell (world_of world.now) key.now self.old self.new) }
+    {
+        match key {
+            CellKey::Msg(name) => self.note_message(alloc, world, *name),
+            CellKey::View(vat, promise) => self.note_view(world, *vat, *promise),
+            CellKey::Board(promise) => self.note_publication(alloc, world, *promise),
+            CellKey::Name(_)
+            | CellKey::Slot(_)
+            | CellKey::Object(_)
+            | CellKey::Top(_, _)
+            | CellKey::Fence(_, _) => Ok(()),
+        }
+    }
+
+    /// Notes of all messages how they wait.
+    fn note_messages(&mut self, alloc: Global, world: &World) -> Result<(), AllocError>
+        ensures { OnOk result (PlacesAll (world_of world.now) (λ m. is_some (message_in_world (world_of world.now) m)) self.old self.new) }
+    {
+        let messages = world.messages(alloc)?;
+        for (name, _) in messages.iter() {
+            self.place(world, *name)?;
+        }
+        Ok(())
+    }
+
+    /// Notes how a message waits, and anew how those wait that come after it.
+    fn note_message(&mut self, alloc: Global, world: &World, name: MsgId) -> Result<(), AllocError>
+        ensures { OnOk result (NotesMessage (world_of world.now) name self.old self.new) }
+    {
+        self.place(world, name)?;
+        for follower in self.followers_of(alloc, name)? {
+            self.renew(world, follower)?;
+        }
+        Ok(())
+    }
+
+    /// Notes how a message waits, and after which ones it comes.
+    fn place(&mut self, world: &World, name: MsgId) -> Result<(), AllocError>
+        ensures { OnOk result (Places (world_of world.now) name self.old self.new) }
+    {
+        self.follow(world, name)?;
+        self.renew(world, name)
+    }
+
+    /// Notes how a message waits.
+    fn renew(&mut self, world: &World, name: MsgId) -> Result<(), AllocError>
+        ensures { OnOk result (Renews (world_of world.now) (λ m. is_eq (message_cmp name m)) self.old self.new) }
+    {
+        self.waiting.put(name, waits(world, name))
+    }
+
+    /// Notes after which ones a message comes that hangs on nothing else.
+    fn follow(&mut self, world: &World, name: MsgId) -> Result<(), AllocError>
+        ensures { OnOk result (Follows (world_of world.now) name self.old self.new) }
+    {
+        match world.message(name) {
+            Some(message) => {
+                self.follow_each(name, message.sent.after.names(), has_only_a_turn(message))
+            }
+            None => Ok(()),
+        }
+    }
+
+    /// Notes of a message whether it follows each of these.
+    fn follow_each(&mut self, name: MsgId, names: &[MsgId], follows: bool) -> Result<(), AllocError>
+        ensures { OnOk result (FollowsEach name names.now follows self.old self.new) }
+    {
+        for before in names {
+            let follower = Follower {
+                before: *before,
+                message: name,
+            };
+            keep(&mut self.followers, follower, follows)?;
+        }
+        Ok(())
+    }
+
+    /// Those that follow a message.
+    fn followers_of(&self, alloc: Global, before: MsgId) -> Result<Vec<MsgId>, AllocError>
+        ensures { IfOk result (λ names. (m : MsgId) → is_in names.items m ≡ has_follower self.now before m) }
+    {
+        let mut names = Vec::new(alloc);
+        let first = Follower {
+            before,
+            message: MsgId {
+                event: EventName(0),
+                index: 0,
+            },
+        };
+        for follower in self.followers.range(first..) {
+            if follower.before != before {
+                return Ok(names);
+            }
+            names.push(follower.message)?;
+        }
+        Ok(names)
+    }
+
+    /// Notes all views of all vats.
+    fn note_vats(&mut self, alloc: Global, world: &World) -> Result<(), AllocError>
+        ensures { OnOk result (NotesViews (world_of world.now) (λ p v. is_some (vat_state (world_of world.now) v (view_cell p))) self.old self.new) }
+    {
+        for vat in world.vats(alloc)? {
+            self.note_vat(alloc, world, vat)?;
+        }
+        Ok(())
+    }
+
+    /// Notes all views of a vat.
+    fn note_vat(&mut self, alloc: Global, world: &World, vat: VatNo) -> Result<(), AllocError>
+        ensures { OnOk result (NotesViews (world_of world.now) (λ p v. is_eq (vat_cmp vat v) && is_some (vat_state (world_of world.now) v (view_cell p))) self.old self.new) }
+    {
+        let Some(state) = world.home(vat) else {
+            return Ok(());
+        };
+        let contents = state.contents(alloc)?;
+        for (promise, _) in contents.views.iter() {
+            self.note_view(world, vat, *promise)?;
+        }
+        Ok(())
+    }
+
+    /// Notes whether a promise is open in a vat's view, and whether the vat can learn of it.
+    fn note_view(&mut self, world: &World, vat: VatNo, promise: PromId) -> Result<(), AllocError>
+        ensures { OnOk result (NotesViews (world_of world.now) (same_view promise vat) self.old self.new) }
+    {
+        let open = is_open(world, vat, promise);
+        let known = can_learn(world, vat, promise);
+        keep(&mut self.open, Open { promise, vat }, open)?;
+        keep(&mut self.known, Known { vat, promise }, known)
+    }
+
+    /// Notes the views in which a promise was open.
+    fn note_publication(
+        &mut self,
+        alloc: Global,
+        world: &World,
+        promise: PromId,
+    ) -> Result<(), AllocError>
+        ensures { OnOk result (NotesViews (world_of world.now) (λ p v. is_eq (promise_cmp promise p) && has_open self.old p v) self.old self.new) }
+    {
+        for vat in self.vats_that_wait(alloc, promise)? {
+            self.note_view(world, vat, promise)?;
+        }
+        Ok(())
+    }
+
+    /// The vats in whose views a promise is open.
+    fn vats_that_wait(&self, alloc: Global, promise: PromId) -> Result<Vec<VatNo>, AllocError>
+        ensures { IfOk result (λ vats. (v : VatNo) → is_among vats.items v ≡ has_open self.now promise v) }
+    {
+        let mut vats = Vec::new(alloc);
+        let first = Open {
+            promise,
+            vat: VatNo(EventName(0)),
+        };
+        for open in self.open.range(first..) {
+            if open.promise != promise {
+                return Ok(vats);
+            }
+            vats.push(open.vat)?;
+        }
+        Ok(vats)
+    }
+
+    /// The promise of this event and number that a vat can learn of: the first, should there be several.
+    pub fn known_as(&self, vat: VatNo, event: EventName, index: u32) -> Option<PromId>
+        ensures { KnownAs (has_known self.now) vat event index result }
+    {
+        let first = Known {
+            vat,
+            promise: PromId {
+                event,
+                index,
+                home: VatNo(EventName(0)),
+            },
+        };
+        let known = self.known.range(first..).next()?;
+        if is_of(known, vat, event, index) {
+            Some(known.promise)
+        } else {
+            None
+        }
+    }
+
+    /// The first that may be done: what a message can do, in order of their names, then what vats can learn, in order of birth and of
+    /// promise. Turns and learning of vats that are out are left out. Fails only for want of memory.
+    pub fn first(
+        &self,
+        alloc: Global,
+        world: &World,
+        desk: &Desk,
+    ) -> Result<Option<Step>, AllocError>
+        ensures { NotedIn (world_of world.now) self.now → IfOk result (First (world_of world.now) (out_at desk.now)) }
+    {
+        match self.first_of_messages(alloc, world, desk)? {
+            Some(step) => Ok(Some(step)),
+            None => Ok(self.first_learning(desk)),
+        }
+    }
+
+    /// The first that a message can do: at each vat only the first is looked at of those that are ready there.
+    fn first_of_messages(
+        &self,
+        alloc: Global,
+        world: &World,
+        desk: &Desk,
+    ) -> Result<Option<Step>, AllocError>
+        ensures first { IfOk result (λ step. step ≡ first_in (front_steps (world_of world.now) (out_at desk.now) self.now)) }
+        ensures ordered { IsOrdered message_cmp self.now.waiting.fronts }
+    {
+        for name in self.waiting.fronts.iter() {
+            if let Some(step) = self.front_step(alloc, world, *name, desk)? {
+                return Ok(Some(step));
+            }
+        }
+        Ok(None)
+    }
+
+    /// What a message at the front can do.
+    fn front_step(
+        &self,
+        alloc: Global,
+        world: &World,
+        name: MsgId,
+        desk: &Desk,
+    ) -> Result<Option<Step>, AllocError>
+        ensures { IfOk result (λ step. step ≡ front_step (world_of world.now) (out_at desk.now) self.now name) }
+    {
+        match self.waiting.get(name) {
+            Some(waits) => step_by(alloc, world, name, waits, desk),
+            None => Ok(None),
+        }
+    }
+
+    /// The first that a vat can learn.
+    fn first_learning(&self, desk: &Desk) -> Option<Step>
+        ensures first { result ≡ first_in (learn_steps (out_at desk.now) self.now) }
+        ensures ordered { IsOrdered known_cmp self.now.known }
+    {
+        for known in self.known.iter() {
+            if let Some(step) = learning(known, desk) {
+                return Some(step);
+            }
+        }
+        None
+    }
+
+    /// All that may be done, in that order. Fails only for want of memory.
+    pub fn all(&self, alloc: Global, world: &World, desk: &Desk) -> Result<Vec<Step>, AllocError>
+        ensures { NotedIn (world_of world.now) self.now → IfOk result (λ steps. Enabled (world_of world.now) (out_at desk.now) steps.items) }
+    {
+        let mut steps = Vec::new(alloc);
+        self.add_messages(alloc, world, desk, &mut steps)?;
+        self.add_learning(desk, &mut steps)?;
+        Ok(steps)
+    }
+
+    /// Adds what messages can do.
+    fn add_messages(
+        &self,
+        alloc: Global,
+        world: &World,
+        desk: &Desk,
+        steps: &mut Vec<Step>,
+    ) -> Result<(), AllocError>
+        ensures added { OnOk result (steps.new.items ≡ steps.old.items ++ message_steps (world_of world.now) (out_at desk.now) self.now) }
+        ensures ordered { IsOrderedMap message_cmp self.now.waiting.all }
+    {
+        for (name, waits) in self.waiting.all.iter() {
+            add_step(step_by(alloc, world, *name, *waits, desk)?, steps)?;
+        }
+        Ok(())
+    }
+
+    /// Adds what vats can learn.
+    fn add_learning(&self, desk: &Desk, steps: &mut Vec<Step>) -> Result<(), AllocError>
+        ensures added { OnOk result (steps.new.items ≡ steps.old.items ++ learn_steps (out_at desk.now) self.now) }
+        ensures ordered { IsOrdered known_cmp self.now.known }
+    {
+        for known in self.known.iter() {
+            add_step(learning(known, desk), steps)?;
+        }
+        Ok(())
+    }
+}
+
+/// Puts an item into a set or takes it out.
+fn keep<T: Ord + Drop>(set: &mut BTreeSet<T>, item: T, stays: bool) -> Result<(), AllocError>
+    ensures { OnOk result ((q : T) → contains T.cmp set.new q ≡ cond (is_eq (T.cmp item q)) stays (contains T.cmp set.old q)) }
+{
+    if stays {
+        set.insert(item)?;
+        Ok(())
+    } else {
+        set.remove(&item);
+        Ok(())
+    }
+}
+
+/// How a message waits, if it is there and not done.
+fn waits(world: &World, name: MsgId) -> Option<Waits>
+    ensures { result ≡ waits_in (world_of world.now) name }
+{
+    match world.message(name) {
+        Some(message) => match message.place {
+            Place::Flying(_) => Some(Waits::Moving),
+            Place::At(vat) => Some(waits_at(world, message, vat)),
+            Place::Done(_) => None,
+        },
+        None => None,
+    }
+}
+
+/// How a message waits at a vat.
+fn waits_at(world: &World, message: &Message, vat: VatNo) -> Waits
+    ensures { result ≡ waits_here (world_of world.now) vat (message_of message.now) }
+{
+    if !stays(&message.sent.delivery, vat) {
+        return Waits::Moving;
+    }
+    if are_done(world, message.sent.after.names()) {
+        Waits::Ready(vat)
+    } else {
+        Waits::Behind
+    }
+}
+
+/// Whether a message is at a vat and can do nothing but have its turn there.
+fn has_only_a_turn(message: &Message) -> bool
+    ensures { result ≡ only_turns (message_of message.now) (message_of message.now).place }
+{
+    match message.place {
+        Place::At(vat) => stays(&message.sent.delivery, vat),
+        Place::Flying(_) | Place::Done(_) => false,
+    }
+}
+
+/// Whether a delivery is made in this vat whatever is published or learnt: a call on what is there, an opening, or a question.
+fn stays(delivery: &Delivery, vat: VatNo) -> bool
+    ensures { result ≡ stays_of vat (delivery_of delivery.now) }
+{
+    match delivery {
+        Delivery::Sent(call) => is_there(&call.target, vat),
+        Delivery::Opening(_, _) | Delivery::Asked(_) => true,
+        Delivery::Waiting(_) => false,
+    }
+}
+
+/// Whether a call on this is made in this vat.
+fn is_there(target: &Value, vat: VatNo) -> bool
+    ensures { result ≡ is_there_of vat (val_of target.now) }
+{
+    match target {
+        Value::Object(object) => object.vat == vat,
+        Value::Ejector(ejector) => ejector.vat == vat,
+        Value::Promise(_) => false,
+        Value::Null
+        | Value::Bool(_)
+        | Value::Int(_)
+        | Value::Text(_)
+        | Value::List(_)
+        | Value::Broken(_) => true,
+    }
+}
+
+/// Whether all these messages are done.
+fn are_done(world: &World, names: &[MsgId]) -> bool
+    ensures { result ≡ is_none (first_undone (world_of world.now) names.now) }
+{
+    for name in names {
+        if !is_done(world, *name) {
+            return false;
+        }
+    }
+    true
+}
+
+/// Whether a message is there and done.
+fn is_done(world: &World, name: MsgId) -> bool
+    ensures { result ≡ done_in (message_in_world (world_of world.now) name) }
+{
+    match world.message(name) {
+        Some(message) => match message.place {
+            Place::Flying(_) | Place::At(_) => false,
+            Place::Done(_) => true,
+        },
+        None => false,
+    }
+}
+
+/// Whether a promise is open in a vat's view: it has come into the vat, and nothing was learnt of it.
+pub fn is_open(world: &World, vat: VatNo, promise: PromId) -> bool
+    ensures { result ≡ open_view (world_of world.now) promise vat }
+{
+    match world.home(vat) {
+        Some(state) => is_open_in(state, promise),
+        None => false,
+    }
+}
+
+/// Whether a promise is open in the view of this state.
+fn is_open_in(state: &VatState, promise: PromId) -> bool
+    ensures { result ≡ is_open_of (state_of state.now (view_cell promise)) }
+{
+    match state.views.get(&promise) {
+        Some(view) => is_open_view(view),
+        None => false,
+    }
+}
+
+/// Whether nothing was learnt of a promise.
+fn is_open_view(view: &View) -> bool
+    ensures { result ≡ is_open_of (Some (viewed (view_of view.now))) }
+{
+    match view {
+        View::Open => true,
+        View::Resolved(_) => false,
+    }
+}
+
+/// Whether a vat can learn of a promise: it is open in the vat's view, and was published.
+fn can_learn(world: &World, vat: VatNo, promise: PromId) -> bool
+    ensures { result ≡ can_learn_of (world_of world.now) vat promise }
+{
+    is_open(world, vat, promise) && world.published(promise).is_some()
+}
+
+/// Whether a known promise is that of this vat, of this event and of this number.
+fn is_of(known: &Known, vat: VatNo, event: EventName, index: u32) -> bool
+    ensures { result ≡ (nat_eq known.now.vat.0.0 vat.0.0 && (nat_eq known.now.promise.event.0 event.0 && nat_eq known.now.promise.index index)) }
+{
+    known.vat == vat && known.promise.event == event && known.promise.index == index
+}
+
+/// Adds a step, if there is one.
+fn add_step(step: Option<Step>, steps: &mut Vec<Step>) -> Result<(), AllocError>
+    ensures { OnOk result (steps.new.items ≡ steps.old.items ++ option_to_list step) }
+{
+    match step {
+        Some(step) => {
+            steps.push(step)?;
+            Ok(())
+        }
+        None => Ok(()),
+    }
+}
+
+/// What a message can do that waits so.
+fn step_by(
+    alloc: Global,
+    world: &World,
+    name: MsgId,
+    waits: Waits,
+    desk: &Desk,
+) -> Result<Option<Step>, AllocError>
+    ensures { IfOk result (λ step. step ≡ step_by_way (world_of world.now) (out_at desk.now) name waits) }
+{
+    match waits {
+        Waits::Moving => message_step(alloc, world, name, desk),
+        Waits::Ready(vat) => Ok((!desk.has_vat(vat)).then_some(Step::Turn(name))),
+        Waits::Behind => Ok(None),
+    }
+}
+
+/// What a message can do: arrive, go on, or have its turn.
+fn message_step(
+    alloc: Global,
+    world: &World,
+    name: MsgId,
+    desk: &Desk,
+) -> Result<Option<Step>, AllocError>
+    ensures { IfOk result (λ step. step ≡ message_step_of (world_of world.now) (out_at desk.now) name) }
+{
+    match world.message(name) {
+        Some(message) => match message.place {
+            Place::Flying(_) => Ok(Some(Step::Arrive(name))),
+            Place::At(vat) => step_at(alloc, world, name, message, vat, desk),
+            Place::Done(_) => Ok(None),
+        },
+        None => Ok(None),
+    }
+}
+
+/// What a message at a vat can do: go on, or have its turn.
+fn step_at(
+    alloc: Global,
+    world: &World,
+    name: MsgId,
+    message: &Message,
+    vat: VatNo,
+    desk: &Desk,
+) -> Result<Option<Step>, AllocError>
+    ensures { IfOk result (λ step. step ≡ step_at_vat (world_of world.now) (out_at desk.now) name (message_of message.now) vat) }
+{
+    if onward(alloc, world, message, vat)?.is_some() {
+        return Ok(Some(Step::Forward(name)));
+    }
+    if desk.has_vat(vat) {
+        return Ok(None);
+    }
+    let ready = is_ready(alloc, world, message, vat)?;
+    Ok(ready.then_some(Step::Turn(name)))
+}
+
+/// Whether a message at a vat may be delivered.
+fn is_ready(alloc: Global, world: &World, message: &Message, vat: VatNo) -> Result<bool, AllocError>
+    ensures { IfOk result (λ ready. ready ≡ is_none (unready_at (world_of world.now) vat (message_of message.now))) }
+{
+    match check_ready(alloc, world, message, vat) {
+        Ok(_) => Ok(true),
+        Err(Delay::Memory) => Err(AllocError),
+        Err(Delay::Unready(_)) => Ok(false),
+    }
+}
+
+/// What a vat learns of a promise that it can learn of, if no ticket of it is out.
+fn learning(known: &Known, desk: &Desk) -> Option<Step>
+    ensures { result ≡ learn_step (out_at desk.now) known.now }
+{
+    (!desk.has_vat(known.vat)).then_some(Step::Learn(known.vat, known.promise))
+}

@@ -1,5 +1,0 @@
-use Rattle.std.proofs.Common.{rules}
-use Rattle.commands.proofs.command.ask.Goals as goal
-
-pub returns : goal.returns
-returns c = search rules

@@ -1,7 +1,0 @@
-use Rattle.std.proofs.Common.{arith, not}
-use Rattle.commands.specs.Words.{is_blank}
-use Rattle.commands.proofs.Places.{place_or}
-use Rattle.commands.proofs.words.blanks_end.Goals as goal
-
-pub returns : goal.returns
-returns c = grind (arith, place_or (λ b. not (is_blank b)) c.args.text.now)

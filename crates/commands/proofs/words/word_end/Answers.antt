@@ -1,7 +1,0 @@
-use Rattle.std.proofs.Common.{arith}
-use Rattle.commands.specs.Words.{is_blank}
-use Rattle.commands.proofs.Places.{place_or}
-use Rattle.commands.proofs.words.word_end.Goals as goal
-
-pub returns : goal.returns
-returns c = grind (arith, place_or is_blank c.args.text.now)

@@ -1,5 +1,0 @@
-use Rattle.std.proofs.Common.{rules}
-use Rattle.eforms.proofs.operators.prefixed.Goals as goal
-
-pub returns-in-Not : goal.returns-in-Not
-returns-in-Not c = search rules

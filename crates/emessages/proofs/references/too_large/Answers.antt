@@ -1,6 +1,0 @@
-use Rattle.std.proofs.Common.{refl}
-use Rattle.erules.proofs.Answering.{made_end_is, in_words}
-use Rattle.emessages.proofs.references.too_large.Goals as goal
-
-pub returns : goal.returns
-returns c = made_end_is c.throw_made.result c.throw_made.new.w c.new-problem.result _ _ (in_words c.new-problem.result _ _ refl c.new-problem.ensures) c.throw_made.ensures.end

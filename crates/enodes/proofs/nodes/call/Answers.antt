@@ -1,6 +1,0 @@
-use Rattle.std.proofs.Common.{rules}
-use Rattle.enodes.proofs.Views.{tree_of-made}
-use Rattle.enodes.proofs.nodes.call.Goals as goal
-
-pub returns : goal.returns
-returns c = tree_of-made c.args.receiver c.args.verb c.in_ok-args.args c.args.args (search rules)

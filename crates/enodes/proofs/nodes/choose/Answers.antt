@@ -1,6 +1,0 @@
-use Rattle.std.proofs.Common.{rules}
-use Rattle.enodes.proofs.Views.{tree_of-chosen}
-use Rattle.enodes.proofs.nodes.choose.Goals as goal
-
-pub returns : goal.returns
-returns c = tree_of-chosen c.args.condition c.in_ok-first.first c.in_ok-second.second c.args.first c.args.second (search rules) (search rules)

@@ -1,6 +1,0 @@
-use Rattle.std.proofs.Common.{rules}
-use Rattle.enodes.proofs.Views.{tree_of-hidden}
-use Rattle.enodes.proofs.nodes.hide.Goals as goal
-
-pub returns : goal.returns
-returns c = tree_of-hidden c.in_ok-new.field-0 c.args.body (search rules)

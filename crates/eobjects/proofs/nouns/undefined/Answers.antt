@@ -1,5 +1,0 @@
-use Rattle.erules.proofs.Answering.{made_end_is}
-use Rattle.eobjects.proofs.nouns.undefined.Goals as goal
-
-pub returns : goal.returns
-returns c = made_end_is c.throw_made.result c.throw_made.new.w c.undefined_problem-problem.result _ _ c.undefined_problem-problem.ensures c.throw_made.ensures.end

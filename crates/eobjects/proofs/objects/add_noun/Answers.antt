@@ -1,6 +1,0 @@
-use Rattle.std.proofs.Common.{rules}
-use Rattle.erules.proofs.Locals.{nouns_of-push}
-use Rattle.eobjects.proofs.objects.add_noun.Goals as goal
-
-pub returns : goal.returns
-returns c = rw (c.in_ok-push.ensures.items, nouns_of-push) (search rules)

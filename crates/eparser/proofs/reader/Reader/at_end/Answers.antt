@@ -1,6 +1,0 @@
-use Rattle.std.proofs.Common.{◌∙◌}
-use Rattle.eparser.proofs.Views.{is_empty-plain}
-use Rattle.eparser.proofs.reader.Reader.at_end.Goals as goal
-
-pub returns : goal.returns
-returns c = c.is_empty.ensures ∙ is_empty-plain c.args.self.now.rest.now

@@ -1,0 +1,6 @@
+use Rattle.std.proofs.Common.{rules}
+use Rattle.ereader_nodes.proofs.Views.{tree_of-when_catch}
+use Rattle.ereader_nodes.proofs.nodes.when_catch.Goals as goal
+
+pub returns : goal.returns
+returns c = tree_of-when_catch c.args.value c.in_ok-body.body c.args.pattern c.in_ok-handler.handler c.args.body c.args.handler (search rules) (search rules)

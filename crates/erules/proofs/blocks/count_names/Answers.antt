@@ -1,7 +1,0 @@
-use Rattle.std.proofs.Common.{arith}
-use Rattle.erules.specs.Locals.{captured_in}
-use Rattle.erules.proofs.Scopes.{length-names_in}
-use Rattle.erules.proofs.blocks.count_names.Goals as goal
-
-pub returns : goal.returns
-returns c = omega (arith, length-names_in (captured_in c.args.w.now.captured) c.args.w.now.older c.args.w.now.nouns.items c.args.w.now.within, c.len.ensures)

@@ -1,5 +1,0 @@
-use Rattle.std.proofs.Common.{rules}
-use Rattle.erules.proofs.end.Abandon.reason.Goals as goal
-
-pub returns-in-Budget : goal.returns-in-Budget
-returns-in-Budget c = search rules

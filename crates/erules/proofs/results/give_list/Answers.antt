@@ -1,7 +1,0 @@
-use Rattle.std.proofs.Common.{ap}
-use Rattle.erules.specs.Outcomes.{reply_end}
-use Rattle.erules.proofs.Answering.{end_is}
-use Rattle.erules.proofs.results.give_list.Goals as goal
-
-pub returns : goal.returns
-returns c = end_is c.give.result c.give.new.into c.give.new.w _ _ _ (ap reply_end c.in_ok-answer.ensures) c.give.ensures

@@ -1,5 +1,0 @@
-use Rattle.erules.proofs.Answering.{made_end_is}
-use Rattle.erules.proofs.wanted.mismatch.Goals as goal
-
-pub returns : goal.returns
-returns c = made_end_is c.throw_made.result c.throw_made.new.w c.mismatch_problem-problem.result _ _ c.mismatch_problem-problem.ensures c.throw_made.ensures.end

@@ -1,5 +1,0 @@
-use Rattle.std.proofs.Common.{rules}
-use Rattle.erules.proofs.wanted.mismatch_problem.Goals as goal
-
-pub returns-in-Null : goal.returns-in-Null
-returns-in-Null c = search rules

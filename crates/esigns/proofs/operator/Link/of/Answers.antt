@@ -1,5 +1,0 @@
-use Rattle.std.proofs.Common.{rules}
-use Rattle.esigns.proofs.operator.Link.of.Goals as goal
-
-pub returns-in-OpenSquare : goal.returns-in-OpenSquare
-returns-in-OpenSquare c = search rules

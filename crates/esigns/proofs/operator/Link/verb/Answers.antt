@@ -1,5 +1,0 @@
-use Rattle.std.proofs.Common.{rules}
-use Rattle.esigns.proofs.operator.Link.verb.Goals as goal
-
-pub returns : goal.returns
-returns c = search rules

@@ -1,0 +1,16 @@
+use Rattle.std.proofs.Common.{ap, sym}
+use Rattle.heap.specs.View.{bind_of}
+use Rattle.heap.specs.Drafts.{draft_of}
+use Rattle.eval_rules.specs.Rules.{found}
+use Rattle.eval_rules.specs.View.{at}
+use Rattle.eval_objects.proofs.Places.{within, told_at, found_outside}
+use Rattle.eval_objects.proofs.nouns.seek.Goals as goal
+
+pub binding_at-requires : goal.binding_at-requires
+binding_at-requires c = within (at c.args.w.now).nouns c.args.name.now c.args.place c.in-Frame.i c.requires c.in-Frame.is
+
+pub returns-in-Frame : goal.returns-in-Frame
+returns-in-Frame c = sym (ap (found (draft_of c.args.w.now.draft) c.args.name.now) (c.binding_at.ensures c.args.name.now (told_at (at c.args.w.now).nouns c.args.name.now c.args.place c.in-Frame.i c.requires c.in-Frame.is)))
+
+pub returns-in-Top : goal.returns-in-Top
+returns-in-Top c = found_outside (λ b. bind_of b.now) c.top.result (at c.args.w.now).nouns c.args.name.now c.args.place (draft_of c.args.w.now.draft) c.requires c.in-Top.is c.top.ensures

@@ -1,0 +1,5 @@
+use Rattle.eval_rules.proofs.Answering.{made_end_is}
+use Rattle.eval_rules.proofs.wanted.mismatch.Goals as goal
+
+pub returns : goal.returns
+returns c = made_end_is c.throw_made.result c.throw_made.new.w c.mismatch_problem-problem.result _ _ c.mismatch_problem-problem.ensures c.throw_made.ensures.end

@@ -1,0 +1,5 @@
+use Rattle.std.proofs.Common.{rules}
+use Rattle.eval_rules.proofs.wanted.mismatch_problem.Goals as goal
+
+pub returns-in-Null : goal.returns-in-Null
+returns-in-Null c = search rules

@@ -1,5 +1,0 @@
-use Rattle.ordering.proofs.Steps.{step_law}
-use Rattle.ordering.proofs.theorems.events_do_their_deeds.Goals as goal
-
-pub returns : goal.returns
-returns c = step_law

@@ -1,5 +1,0 @@
-use Rattle.streams.proofs.Giving.{tells_both}
-use Rattle.printing.proofs.listing.put_cone.Goals as goal
-
-pub returns : goal.returns
-returns g c = tells_both g.W.Write.contents c.put.ensures (tells_both g.W.Write.contents c.put_names.ensures c.put-2.ensures)

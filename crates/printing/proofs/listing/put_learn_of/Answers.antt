@@ -1,5 +1,0 @@
-use Rattle.streams.proofs.Giving.{tells_both}
-use Rattle.printing.proofs.listing.put_learn_of.Goals as goal
-
-pub returns : goal.returns
-returns g c = tells_both g.W.Write.contents c.put.ensures (tells_both g.W.Write.contents c.put-2.ensures (tells_both g.W.Write.contents c.put-3.ensures c.put_promise.ensures))

@@ -1,5 +1,0 @@
-use Rattle.streams.proofs.Giving.{tells_both}
-use Rattle.printing.proofs.names.put_made.Goals as goal
-
-pub returns : goal.returns
-returns g c = tells_both g.W.Write.contents (tells_both g.W.Write.contents c.put_event.ensures c.put.ensures) c.put_number.ensures

@@ -1,5 +1,0 @@
-use Rattle.streams.proofs.Giving.{tells_both}
-use Rattle.printing.proofs.show.put_done.Goals as goal
-
-pub returns : goal.returns
-returns g c = tells_both g.W.Write.contents c.put.ensures c.put_event.ensures

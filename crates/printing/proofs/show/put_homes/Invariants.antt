@@ -1,8 +1,0 @@
-use Rattle.std.proofs.Common.{drop}
-use Rattle.streams.proofs.Giving.{LeadsTo}
-use Rattle.printing.specs.PictureView.{homes_text}
-use Rattle.printing.proofs.show.put_homes.Given as goal
-
--- what may be put of those that are left leads to all
-abbrev pub invariant-loop-home : goal.invariant-loop-home
-invariant-loop-home g l = LeadsTo g.W.Write.contents l.fn.out l.out (homes_text (drop l.home-index l.homes)) (homes_text l.homes)

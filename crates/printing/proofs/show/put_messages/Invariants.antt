@@ -1,8 +1,0 @@
-use Rattle.streams.proofs.Giving.{LeadsTo}
-use Rattle.printing.specs.Show.{message_lines}
-use Rattle.printing.specs.ShowView.{messages_in, message_entries}
-use Rattle.printing.proofs.show.put_messages.Given as goal
-
--- what may be put of those that are left leads to all
-abbrev pub invariant-loop-name : goal.invariant-loop-name
-invariant-loop-name g l = LeadsTo g.W.Write.contents l.fn.out l.out (message_lines l.vats.entries (message_entries l.name-iterator)) (message_lines l.vats.entries (messages_in l.messages))

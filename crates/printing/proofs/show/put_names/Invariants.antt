@@ -1,8 +1,0 @@
-use Rattle.std.proofs.Common.{drop}
-use Rattle.streams.proofs.Giving.{LeadsTo}
-use Rattle.printing.specs.Show.{names_text}
-use Rattle.printing.proofs.show.put_names.Given as goal
-
--- what may be put of those that are left leads to all
-abbrev pub invariant-loop-name : goal.invariant-loop-name
-invariant-loop-name g l = LeadsTo g.W.Write.contents l.fn.out l.out (names_text (drop l.name-index l.names)) (names_text l.names)

@@ -1,7 +1,0 @@
-use Rattle.std.proofs.Common.{sym, ap, ◌∙◌}
-use Rattle.kernele.specs.Spelling.{bound_name}
-use Rattle.streams.proofs.Giving.{tells_as}
-use Rattle.printing.proofs.show.put_pattern.Goals as goal
-
-pub returns-in-Name : goal.returns-in-Name
-returns-in-Name g c = tells_as g.W.Write.contents (c.as_str.ensures ∙ sym (ap bound_name c.in-Name.is)) c.put.ensures

@@ -1,5 +1,0 @@
-use Rattle.streams.proofs.Giving.{tells_both}
-use Rattle.questions.proofs.message.put_first_and.Goals as goal
-
-pub returns : goal.returns
-returns g c = tells_both g.W.Write.contents c.put_value.ensures c.put_more.ensures

@@ -1,5 +1,0 @@
-use Rattle.streams.proofs.Giving.{tells_both}
-use Rattle.questions.proofs.named.put_word.Goals as goal
-
-pub returns : goal.returns
-returns g c = tells_both g.W.Write.contents c.put.ensures c.put-2.ensures

@@ -1,7 +1,0 @@
-use Rattle.std.proofs.Common.{ap}
-use Rattle.std.specs.Fmt.{decimal}
-use Rattle.streams.proofs.Giving.{tells_both, tells_as}
-use Rattle.questions.proofs.reason.put_chain.Goals as goal
-
-pub returns : goal.returns
-returns g c = tells_both g.W.Write.contents c.put_number.ensures (tells_both g.W.Write.contents c.put.ensures c.put_links.ensures)

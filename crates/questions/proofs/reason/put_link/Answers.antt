@@ -1,5 +1,0 @@
-use Rattle.streams.proofs.Giving.{tells_both}
-use Rattle.questions.proofs.reason.put_link.Goals as goal
-
-pub returns : goal.returns
-returns g c = tells_both g.W.Write.contents c.put.ensures (tells_both g.W.Write.contents c.put_event.ensures (tells_both g.W.Write.contents c.put-2.ensures (tells_both g.W.Write.contents c.put_event-2.ensures (tells_both g.W.Write.contents c.put-3.ensures (tells_both g.W.Write.contents c.put_cell.ensures c.put-4.ensures)))))

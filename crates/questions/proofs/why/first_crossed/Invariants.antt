@@ -1,9 +1,0 @@
-use Rattle.std.proofs.Common.{◌≡◌}
-use Rattle.questions.specs.TouchedView.{told_entries}
-use Rattle.questions.specs.WhyView.{crossed_in}
-use Rattle.questions.specs.Writers.{first_cell}
-use Rattle.questions.proofs.why.first_crossed.Given as goal
-
--- the first is among the cells that are left
-abbrev pub invariant-loop-cell : goal.invariant-loop-cell
-invariant-loop-cell l = first_cell (crossed_in l.earlier.entries) (told_entries l.cell-iterator) ≡ first_cell (crossed_in l.earlier.entries) (told_entries l.later.entries)

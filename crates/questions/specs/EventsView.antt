@@ -1,9 +1,0 @@
--- What is told of an event, from what the program has of it.
-use Rattle.std.specs.Prelude.{ℕ, List, ◌++◌}
-use Rattle.printing.specs.ListingView.{listed_text}
-use Rattle.questions.specs.Events.{told_lines}
-use Rattle.questions.specs.TouchedView.{told_entries}
-use Rattle.questions.specs.declared.events.ToldEvent.{ToldEvent}
-
-abbrev pub told_event_text : ToldEvent → List ℕ
-told_event_text t = listed_text t.line ++ told_lines (told_entries t.cells.entries)

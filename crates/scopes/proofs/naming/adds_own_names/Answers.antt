@@ -1,5 +1,0 @@
-use Rattle.scopes.proofs.Growth.{all_grow}
-use Rattle.scopes.proofs.naming.adds_own_names.Goals as goal
-
-pub returns : goal.returns
-returns c = all_grow

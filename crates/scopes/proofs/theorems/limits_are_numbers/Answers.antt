@@ -1,5 +1,0 @@
-use Rattle.std.proofs.Common.{refl}
-use Rattle.scopes.proofs.theorems.limits_are_numbers.Goals as goal
-
-pub returns : goal.returns
-returns c = (refl, refl)

@@ -1,0 +1,5 @@
+use Rattle.std.proofs.Common.{rules}
+use Rattle.stepper_commands.proofs.numbers.object_named.Goals as goal
+
+pub returns : goal.returns
+returns c = search rules

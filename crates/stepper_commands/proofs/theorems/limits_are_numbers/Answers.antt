@@ -1,0 +1,5 @@
+use Rattle.std.proofs.Common.{refl}
+use Rattle.stepper_commands.proofs.theorems.limits_are_numbers.Goals as goal
+
+pub returns : goal.returns
+returns c = (refl, refl, refl, refl, refl, refl)

@@ -1,0 +1,5 @@
+use Rattle.stepper_streams.proofs.Giving.{tells_both}
+use Rattle.stepper_printing.proofs.show.put_message_line.Goals as goal
+
+pub returns : goal.returns
+returns g c = tells_both g.W.Write.contents c.put.ensures (tells_both g.W.Write.contents c.put_message.ensures (tells_both g.W.Write.contents c.put_place.ensures c.put-2.ensures))

@@ -1,0 +1,5 @@
+use Rattle.stepper_streams.proofs.Giving.{tells_both}
+use Rattle.stepper_questions.proofs.message.put_first_and.Goals as goal
+
+pub returns : goal.returns
+returns g c = tells_both g.W.Write.contents c.put_value.ensures c.put_more.ensures

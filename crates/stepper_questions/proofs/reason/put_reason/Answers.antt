@@ -1,0 +1,5 @@
+use Rattle.stepper_streams.proofs.Giving.{tells_both}
+use Rattle.stepper_questions.proofs.reason.put_reason.Goals as goal
+
+pub returns : goal.returns
+returns g c = tells_both g.W.Write.contents c.put.ensures (tells_both g.W.Write.contents c.put_event.ensures (tells_both g.W.Write.contents c.put-2.ensures (tells_both g.W.Write.contents c.put_event-2.ensures (tells_both g.W.Write.contents c.put-3.ensures c.put_relation.ensures))))

@@ -1,0 +1,5 @@
+use Rattle.stepper_streams.proofs.Giving.{tells_both}
+use Rattle.stepper_questions.proofs.showing.put_slot_cell.Goals as goal
+
+pub returns : goal.returns
+returns g c = tells_both g.W.Write.contents c.put.ensures c.put_slot.ensures

@@ -1,0 +1,7 @@
+-- A failed read consumes nothing.
+use Rattle.std.proofs.Common.{◌≡◌, length}
+use Rattle.std.specs.Io.KnownBytes.{Keeps}
+use Rattle.stepper_streams.proofs.counted.read_again.Given as goal
+
+abbrev pub invariant-tries : goal.invariant-tries
+invariant-tries g l = (length l.buf ≡ length l.initial.buf) × Keeps (g.R.Read.remaining l.initial.reader) (g.R.Read.remaining l.reader)

@@ -1,8 +1,0 @@
--- Nothing is held, and a line is being taken that is not counted yet.
-use Rattle.std.proofs.Common.{◌≡◌, []}
-use Rattle.streams.specs.Lines.{held, lines_taken, lines_refused}
-use Rattle.streams.proofs.Taking.{Within}
-use Rattle.streams.proofs.lines.Lines.gather.Given as goal
-
-abbrev pub invariant-parts : goal.invariant-parts
-invariant-parts g l = Within g.R.Read.remaining l.fn.self l.self l.line × (held l.self ≡ []) × (lines_taken l.self ≡ lines_taken l.fn.self) × (lines_refused l.self ≡ lines_refused l.fn.self)

@@ -1,8 +1,0 @@
-use Rattle.std.proofs.Common.{sym, ap, ◌∙◌}
-use Rattle.std.specs.Option.{option_copied}
-use Rattle.heap.specs.State.{view_cell}
-use Rattle.worldcells.proofs.Changing.{writer_at}
-use Rattle.worldcells.proofs.homes.Homes.view_writer.Goals as goal
-
-pub returns-in-Some : goal.returns-in-Some
-returns-in-Some c = c.last_writer.ensures ∙ writer_at _ c.in-Some.state.now (view_cell c.args.promise) (sym c.state.ensures ∙ ap option_copied c.in-Some.is)
