@@ -4,4 +4,4 @@
 mod printing;
 pub mod tree;
 
-pub use stepper_printing::print;
+pub use printing::print;
