@@ -19,7 +19,7 @@ use Rattle.journal.specs.Lines.{Line}
 use Rattle.desk.specs.Desks.{Lent, without}
 use Rattle.book.specs.Books.{Book}
 use Rattle.book.proofs.TicketsOut.{all_filter, without_differ}
-use Rattle.bench_pact.specs.declared.View.{View}
+use Rattle.bench_pact.specs.declared.TokenView.{TokenView}
 use Rattle.bench_pact.specs.declared.Deeds.{Deeds}
 use Rattle.bench_pact.specs.declared.Act.TheVariants.{Opens, Closes}
 use Rattle.bench_pact.specs.Agree.{blank, after, strike, knower}
@@ -150,7 +150,7 @@ length-set (x ∷ xs) (suc i) a = ap suc (length-set xs i a)
 abbrev Others : ℕ → ℕ → Book → Book → Type 0
 Others first place old now = (q : ℕ) (x : Deeds) → first + q ≢ first + place → Answers (first + q) x old → Answers (first + q) x now
 
-desk_act : (first made place : ℕ) (began : List Entered) (v w : View) (old now : Book) (d d' : Deeds)
+desk_act : (first made place : ℕ) (began : List Entered) (v w : TokenView) (old now : Book) (d d' : Deeds)
     → IsDesk first made began v old → slice_get v.all place ≡ Some d → w ≡ knower (set v.all place d')
     → (Answers (first + place) d old → Answers (first + place) d' now) → Others first place old now → IsAmong began (entered_in now.journal)
     → IsDesk first made began w now
@@ -181,7 +181,7 @@ among_more began xs ys e is h =
 events_end : (d : Deeds) (numbers : List EventName) (added : code.Event) → events_of (record { events = d.events ++ added ∷ []; tickets = numbers }) ≡ events_of d ++ event_of added ∷ []
 events_end d numbers added = map-append event_of d.events (added ∷ [])
 
-module _ (first made place : ℕ) (began : List Entered) (v w : View) (old now : Book) (d : Deeds) (e : Entered) (added : code.Event)
+module _ (first made place : ℕ) (began : List Entered) (v w : TokenView) (old now : Book) (d : Deeds) (e : Entered) (added : code.Event)
     (h : IsDesk first made began v old) (at : slice_get v.all place ≡ Some d) (seat : e.seat ≡ first + place) (event : event_of added ≡ e.event) (grows : Grows e old now) where
   mine_list : (numbers : List EventName) → Answers (first + place) d old → IsPermutation (events_by (first + place) (entered_in now.journal)) (events_of (record { events = d.events ++ added ∷ []; tickets = numbers }))
   mine_list numbers a =
@@ -226,7 +226,7 @@ rests_same old now is = record {
   same_length = ap length is;
 }
 
-module _ (first made place : ℕ) (began : List Entered) (v w : View) (old now : Book) (d : Deeds)
+module _ (first made place : ℕ) (began : List Entered) (v w : TokenView) (old now : Book) (d : Deeds)
     (h : IsDesk first made began v old) (at : slice_get v.all place ≡ Some d) (rests : Rests old now) where
   rest_list : (s : ℕ) (x : Deeds) → Answers s x old → IsPermutation (events_by s (entered_in now.journal)) (events_of x)
   rest_list s x a = IsPermutation-trans (events_by s (entered_in now.journal)) (events_by s (entered_in old.journal)) (events_of x) (rests.each s) a.list
@@ -266,7 +266,7 @@ module _ (first made place : ℕ) (began : List Entered) (v w : View) (old now :
 pub below_next : {A : Type 0} (f : A → ℕ) (n : ℕ) (xs : List A) → All (λ x. f x ≤ n) xs → All (λ x. f x < n + 1) xs
 below_next f n xs all k d h = let a = all k d h in omega (arith, a)
 
-pub no_desk : (first : ℕ) (began : List Entered) (v : View) (b : Book) → v ≡ knower [] → entered_in b.journal ≡ began → All (λ l. l.seat < first) b.journal → All (λ t. t.seat < first) b.out → IsDesk first 0 began v b
+pub no_desk : (first : ℕ) (began : List Entered) (v : TokenView) (b : Book) → v ≡ knower [] → entered_in b.journal ≡ began → All (λ l. l.seat < first) b.journal → All (λ t. t.seat < first) b.out → IsDesk first 0 began v b
 no_desk first began v b is same entries tickets =
     let none : v.all ≡ [] = ap (λ w. w.all) is in
     let P : List Deeds → Type 0 = λ l. Agrees first b l in record {
@@ -285,7 +285,7 @@ at_blank [] (suc q) = refl
 at_blank (x ∷ xs) zero = refl
 at_blank (x ∷ xs) (suc q) = at_blank xs q
 
-pub one_more : (first made n : ℕ) (began : List Entered) (v w : View) (b : Book) → IsDesk first made began v b → n ≡ made + 1 → w ≡ knower (v.all ++ blank ∷ []) → IsDesk first n began w b
+pub one_more : (first made n : ℕ) (began : List Entered) (v w : TokenView) (b : Book) → IsDesk first made began v b → n ≡ made + 1 → w ≡ knower (v.all ++ blank ∷ []) → IsDesk first n began w b
 one_more first made n began v w b h more is =
     let all : w.all ≡ v.all ++ blank ∷ [] = ap (λ u. u.all) is in
     let P : List Deeds → Type 0 = λ l. Agrees first b l in
@@ -297,11 +297,11 @@ one_more first made n began v w b h more is =
     }
 
 -- a seat's list is just the entries with its number
-pub met : (first made place : ℕ) (began : List Entered) (v : View) (b : Book) (d : Deeds) → IsDesk first made began v b → slice_get v.all place ≡ Some d → Answers (first + place) d b
+pub met : (first made place : ℕ) (began : List Entered) (v : TokenView) (b : Book) (d : Deeds) → IsDesk first made began v b → slice_get v.all place ≡ Some d → Answers (first + place) d b
 met first made place began v b d h at = let Q : Deeds → Type 0 = λ x. Answers (first + place) x b in subst Q (get_or_from_slice_get v.all place d blank at) (h.agrees place)
 
 -- and so it has no more than there are entries
-pub few_events : (first made place : ℕ) (began : List Entered) (v : View) (b : Book) (d : Deeds) → IsDesk first made began v b → length b.journal + 1 < 2 ^ 64 → slice_get v.all place ≡ Some d → length d.events + 1 < 2 ^ 64
+pub few_events : (first made place : ℕ) (began : List Entered) (v : TokenView) (b : Book) (d : Deeds) → IsDesk first made began v b → length b.journal + 1 < 2 ^ 64 → slice_get v.all place ≡ Some d → length d.events + 1 < 2 ^ 64
 few_events first made place began v b d h within at =
     let a = met first made place began v b d h at in
     let n = length_permutation (events_by (first + place) (entered_in b.journal)) (events_of d) a.list in

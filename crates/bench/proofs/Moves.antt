@@ -26,7 +26,7 @@ use Rattle.book.specs.Refusals.{exchange_refusal}
 use Rattle.book.specs.declared.fault.BookFault.{BookFault}
 use Rattle.book.specs.declared.fault.BookFault.TheVariants.{NoTicket}
 use Rattle.book.proofs.TicketsOut.{not_out}
-use Rattle.bench_pact.specs.declared.View.{View}
+use Rattle.bench_pact.specs.declared.TokenView.{TokenView}
 use Rattle.bench_pact.specs.declared.Deeds.{Deeds}
 use Rattle.bench_pact.specs.Agree.{after, knower}
 use Rattle.std.specs.Prelude.{slice_set}
@@ -137,7 +137,7 @@ rests_exchanged zero old now accepted h = absurd (cc)
 rests_exchanged (suc n) old now accepted h = rests_moved n old now (h.places n (omega arith))
 
 -- ---- what lies under the lock, after a command that enters no event, or one that is refused
-pub marked : (c : Command) (first made place : ℕ) (began : List Entered) (v w : View) (old now : Book) (d : Deeds)
+pub marked : (c : Command) (first made place : ℕ) (began : List Entered) (v w : TokenView) (old now : Book) (d : Deeds)
     → IsDesk first made began v old → slice_get v.all place ≡ Some d → command_refusal c old ≡ None → Marks c old now → w ≡ knower (slice_set v.all place (after (mark_of c) d))
     → IsDesk first made began w now × Rests old now
 marked (command.Abandon n) first made place began v w old now d h at accepted m is =
@@ -154,7 +154,7 @@ marked (command.Exchange position) first made place began v w old now d h at acc
     (desk_rested first made place began v w old now d h at rests m.same_out is, rests)
 marked _ first made place began v w old now d h at accepted m is = absurd m
 
-pub refused_marked : (c : Command) (fault : BookFault) (first made place : ℕ) (began : List Entered) (v w : View) (old now : Book) (d : Deeds)
+pub refused_marked : (c : Command) (fault : BookFault) (first made place : ℕ) (began : List Entered) (v w : TokenView) (old now : Book) (d : Deeds)
     → IsDesk first made began v old → slice_get v.all place ≡ Some d → Refuses c old fault → now ≡ old → w ≡ knower (slice_set v.all place (after (mark_of c) d))
     → IsDesk first made began w now × Rests old now
 refused_marked (command.Abandon n) fault first made place began v w old now d h at refused same is =

@@ -10,7 +10,7 @@ use Rattle.desk.specs.Desks.{Lent, without}
 use Rattle.book.specs.Books.{Book}
 use Rattle.book.specs.declared.fault.BookFault.{BookFault}
 use Rattle.book.specs.declared.fault.BookFault.TheVariants as fault
-use Rattle.bench_pact.specs.declared.View.{View}
+use Rattle.bench_pact.specs.declared.TokenView.{TokenView}
 use Rattle.bench_pact.specs.contracts.Deeds as deeds
 use Rattle.bench_pact.specs.declared.Deeds.{Deeds}
 use Rattle.bench_pact.specs.declared.Act.{Act}
@@ -55,14 +55,14 @@ Agrees first b all = (place : ℕ) → Answers (first + place) (slice_index_or a
 
 -- THE INVARIANT of a desk that has made so many seats, of which the first has this number: the keeper knows what each seat has done,
 -- that holds of all, and what was entered before is there still
-pub record IsDesk (first made : ℕ) (began : List Entered) (keeper : View) (b : Book) : Type 0 where
+pub record IsDesk (first made : ℕ) (began : List Entered) (keeper : TokenView) (b : Book) : Type 0 where
   pub keeps : IsKeeper keeper
   pub count : made ≡ length keeper.all
   pub agrees : Agrees first b keeper.all
   pub still : IsAmong began (entered_in b.journal)
 
 -- the invariant of a seat of this number, which counts its events and the turns among them
-pub record IsSeat (first number tally turns : ℕ) (v : View) : Type 0 where
+pub record IsSeat (first number tally turns : ℕ) (v : TokenView) : Type 0 where
   pub holds : IsHolder v
   pub named : number ≡ first + v.place
   pub counted : tally ≡ length v.deeds.events

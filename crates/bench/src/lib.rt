@@ -34,7 +34,7 @@ use crate::pick::Pick;
 use crate::seat::{Opening, Seat};
 use crate::start::Begun;
 use crate::under_lock::Desk;
-use bench_pact::Cell;
+use bench_pact::PactCell;
 use book::book::Book;
 use book::fault::BookFault;
 use ids::names::EventName;
@@ -46,7 +46,7 @@ use turn::ticket::{Ran, Ticket};
 /// A book under a lock. What lies there is good whenever the lock is free: so is the book, and what each seat did stands in it.
 #[derive(Drop)]
 pub struct Bench<L: Opening> {
-    cell: Cell,
+    cell: PactCell,
     desk: Mutex<Desk<L>>,
     ghost named: { cell.table.shared.table_id ≡ L.table },
 }

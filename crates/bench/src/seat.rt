@@ -5,7 +5,7 @@ ghost use Rattle.bench_pact.specs.Agree.{blank, holder, knower, after, entered_b
 ghost use Rattle.bench.specs.Desk.{IsFit, events_of, held};
 ghost use Rattle.bench.specs.Seats.{turns_in};
 
-use bench_pact::{Act, Cell, Token, note};
+use bench_pact::{Act, PactCell, PactToken, note};
 use std::marker::{Brand, Model, PhantomData};
 use std::sync::Wait;
 use std::sync::ledger::{Book as Entries, Ledger, Share};
@@ -49,7 +49,7 @@ pub struct Seat<L: Opening> {
     number: u64,
     tally: u64,
     turns: u64,
-    token: Token,
+    token: PactToken,
     share: Share<L>,
     of: PhantomData<L>,
 }
@@ -70,7 +70,7 @@ impl<L: Opening> Model for Seat<L> {
 
 impl<L: Opening> Seat<L> {
     /// A seat that has done nothing.
-    pub(crate) fn new(number: u64, token: Token, share: Share<L>) -> Seat<L>
+    pub(crate) fn new(number: u64, token: PactToken, share: Share<L>) -> Seat<L>
         requires token { (token.table_id ≡ L.table) × (token.me.1 ≡ []) × (cell_view token ≡ holder (cell_view token).place blank) }
         requires share { (share.parts ≡ 1) × (share.amount ≡ 0) }
         requires number { (number ≡ L.before + 1 + (cell_view token).place) × ((cell_view token).place < L.seats) }
@@ -127,8 +127,8 @@ impl<L: Opening> Seat<L> {
     pub(crate) fn note<R: Wait>(
         &mut self,
         rt: &R,
-        cell: &Cell,
-        keeper: &mut Token,
+        cell: &PactCell,
+        keeper: &mut PactToken,
         entries: &mut Entries<L>,
         act: &Act,
     )

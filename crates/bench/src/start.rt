@@ -6,7 +6,7 @@ ghost use Rattle.book_crew.specs.Work.{IsGreatestSeat};
 
 use crate::seat::Opening;
 use crate::under_lock::Desk;
-use bench_pact::{Cell, Token, begin};
+use bench_pact::{PactCell, PactToken, begin};
 use book::book::Book;
 use std::alloc::{AllocError, Global};
 use std::marker::Model;
@@ -15,8 +15,8 @@ use std::sync::ledger::Blank;
 /// What a Bench begins with: a book, a new cell, and the greatest seat of the book's entries and of its tickets that are out.
 #[derive(Drop)]
 pub struct Begun {
-    cell: Cell,
-    keeper: Token,
+    cell: PactCell,
+    keeper: PactToken,
     book: Book,
     before: u64,
 }
@@ -62,7 +62,7 @@ impl Begun {
         budget: u32,
         blank: Blank,
         parts: u64,
-    ) -> (Cell, Desk<L>)
+    ) -> (PactCell, Desk<L>)
         requires ledger { (blank.name ≡ L.name) × (blank.parts ≡ L.parts) × (L.parts ≡ L.seats) × (parts ≡ L.seats) }
         requires book { (self.table ≡ L.table) × (entered_in (book_of self.book).journal ≡ L.began) × (self.before ≡ L.before) }
         ensures cell { result.0.table.shared.table_id ≡ L.table }

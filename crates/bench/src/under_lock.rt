@@ -17,7 +17,7 @@ use crate::command::{Command, obey};
 use crate::last::last_event;
 use crate::pick::{Pick, pick_first};
 use crate::seat::{Opening, Seat};
-use bench_pact::{Act, Cell, Token, add};
+use bench_pact::{Act, PactCell, PactToken, add};
 use book::book::Book;
 use book::fault::BookFault;
 use ids::names::EventName;
@@ -35,7 +35,7 @@ pub struct Desk<L: Opening> {
     book: Book,
     /// The most steps of a turn.
     budget: u32,
-    keeper: Token,
+    keeper: PactToken,
     entries: Entries<L>,
     /// The parts of the ledger of seats that are still to be made, and how many these are.
     rest: Share<L>,
@@ -67,7 +67,7 @@ impl<L: Opening> Desk<L> {
     pub fn new(
         book: Book,
         budget: u32,
-        keeper: Token,
+        keeper: PactToken,
         before: u64,
         blank: Blank,
         parts: u64,
@@ -93,7 +93,7 @@ impl<L: Opening> Desk<L> {
     }
 
     /// A new seat, with the next number; none just where numbers or the parts of the ledger are used up, and then nothing changes.
-    pub fn seat<R: Wait>(&mut self, rt: &R, cell: &Cell) -> Option<Seat<L>>
+    pub fn seat<R: Wait>(&mut self, rt: &R, cell: &PactCell) -> Option<Seat<L>>
         requires { cell.now.table.shared.table_id ≡ L.table }
         ensures kept { (self.new.book ≡ self.old.book) × (self.new.budget ≡ self.old.budget) }
         ensures there { is_some result ≡ has_seat L.before self.old.made L.seats }
@@ -118,7 +118,7 @@ impl<L: Opening> Desk<L> {
     pub fn author<R: Wait>(
         &mut self,
         rt: &R,
-        cell: &Cell,
+        cell: &PactCell,
         command: Command,
         seat: &mut Seat<L>,
     ) -> Result<Option<EventName>, BookFault>
@@ -158,7 +158,7 @@ impl<L: Opening> Desk<L> {
     pub fn checkout<R: Wait>(
         &mut self,
         rt: &R,
-        cell: &Cell,
+        cell: &PactCell,
         seat: &mut Seat<L>,
     ) -> Result<Pick, BookFault>
         requires { cell.now.table.shared.table_id ≡ L.table }
@@ -202,7 +202,7 @@ impl<L: Opening> Desk<L> {
     pub fn give<R: Wait>(
         &mut self,
         rt: &R,
-        cell: &Cell,
+        cell: &PactCell,
         ticket: &Ticket<Ran>,
         seat: &mut Seat<L>,
     ) -> Result<EventName, BookFault>
@@ -242,7 +242,7 @@ impl<L: Opening> Desk<L> {
     fn let_stale_go<R: Wait>(
         &mut self,
         rt: &R,
-        cell: &Cell,
+        cell: &PactCell,
         number: EventName,
         fault: &BookFault,
         seat: &mut Seat<L>,
@@ -259,7 +259,13 @@ impl<L: Opening> Desk<L> {
     }
 
     /// A ticket is no longer out, nor open with the seat. Nothing else changes.
-    fn close_ticket<R: Wait>(&mut self, rt: &R, cell: &Cell, number: EventName, seat: &mut Seat<L>)
+    fn close_ticket<R: Wait>(
+        &mut self,
+        rt: &R,
+        cell: &PactCell,
+        number: EventName,
+        seat: &mut Seat<L>,
+    )
         requires { cell.now.table.shared.table_id ≡ L.table }
         ensures seat { seat.new ≡ held seat.old (Closes number) }
         ensures gone { book_of self.new.book ≡ record (book_of self.old.book) { out = without number (book_of self.old.book).out } }
@@ -276,7 +282,7 @@ impl<L: Opening> Desk<L> {
     }
 
     /// A seat comes back, whose list is just the entries with its number. Its part of the ledger joins the others.
-    fn take_back<R: Wait>(&mut self, rt: &R, cell: &Cell, mut seat: Seat<L>, all: &mut Share<L>)
+    fn take_back<R: Wait>(&mut self, rt: &R, cell: &PactCell, mut seat: Seat<L>, all: &mut Share<L>)
         requires { cell.now.table.shared.table_id ≡ L.table }
         ensures same { self.new ≡ self.old }
         ensures met { Answers seat.number seat.deeds (book_of self.old.book) }
@@ -305,7 +311,7 @@ impl<L: Opening> Desk<L> {
     }
 
     /// Ends the work. Of each seat that is handed in, the entries with its number are just its list, each once, and its tickets out are open.
-    pub fn close<R: Wait>(self, rt: &R, cell: &Cell, seats: Vec<Seat<L>>) -> (Book, bool)
+    pub fn close<R: Wait>(self, rt: &R, cell: &PactCell, seats: Vec<Seat<L>>) -> (Book, bool)
         requires cell { cell.now.table.shared.table_id ≡ L.table }
         requires ledger { L.parts ≡ L.seats }
         ensures book { result.0 ≡ self.book }

@@ -13,7 +13,7 @@ use crate::pick::Pick;
 use crate::seat::Seat;
 use crate::under_lock::Desk;
 use crate::workshop::Shift;
-use bench_pact::Cell;
+use bench_pact::PactCell;
 use book::book::Book;
 use book::fault::BookFault;
 use book::theorems::journals_are_good;
@@ -77,7 +77,7 @@ impl<L: Shift> WorkDesk<L> {
     }
 
     /// A new seat, as `Desk::seat`.
-    pub fn seat<R: Wait>(&mut self, rt: &R, cell: &Cell) -> Option<Seat<L>>
+    pub fn seat<R: Wait>(&mut self, rt: &R, cell: &PactCell) -> Option<Seat<L>>
         requires { cell.now.table.shared.table_id ≡ L.table }
         ensures { IfSome result (λ s. s.deeds ≡ blank) }
     {
@@ -88,7 +88,7 @@ impl<L: Shift> WorkDesk<L> {
     pub fn checkout<R: Wait>(
         &mut self,
         rt: &R,
-        cell: &Cell,
+        cell: &PactCell,
         seat: &mut Seat<L>,
     ) -> Result<Pick, BookFault>
         requires { cell.now.table.shared.table_id ≡ L.table }
@@ -118,7 +118,7 @@ impl<L: Shift> WorkDesk<L> {
     pub fn give<R: Wait>(
         &mut self,
         rt: &R,
-        cell: &Cell,
+        cell: &PactCell,
         ticket: &Ticket<Ran>,
         seat: &mut Seat<L>,
     ) -> Result<EventName, BookFault>
@@ -134,7 +134,13 @@ impl<L: Shift> WorkDesk<L> {
     }
 
     /// The ticket of this number is no longer out, nor open with the seat.
-    pub fn abandon<R: Wait>(&mut self, rt: &R, cell: &Cell, number: EventName, seat: &mut Seat<L>)
+    pub fn abandon<R: Wait>(
+        &mut self,
+        rt: &R,
+        cell: &PactCell,
+        number: EventName,
+        seat: &mut Seat<L>,
+    )
         requires { cell.now.table.shared.table_id ≡ L.table }
         ensures { seat.new ≡ held seat.old (Closes number) }
     {

@@ -10,7 +10,7 @@ use crate::seat::{Opening, Seat};
 use crate::start::Begun;
 use crate::under_work::WorkDesk;
 use crate::workplace::Workplace;
-use bench_pact::Cell;
+use bench_pact::PactCell;
 use book::book::Book;
 use book::fault::BookFault;
 use ids::names::EventName;
@@ -42,7 +42,7 @@ impl Shift for Brand {
 /// What lies under its lock knows what became of the book since work began.
 #[derive(Drop)]
 pub(crate) struct Workshop<L: Shift> {
-    cell: Cell,
+    cell: PactCell,
     desk: Mutex<WorkDesk<L>>,
     ghost named: { cell.table.shared.table_id ≡ L.table },
 }

@@ -7,7 +7,7 @@ use mathlib.Core.Option.{some, some-ne-none, some-injective}
 use lib.ListN.{get_elem?}
 use Rattle.crossbeam_utils.specs.Register.{Turns, Forks, Merges}
 use Rattle.atomic_table.proofs.Lists.{at_set, set_again}
-use Rattle.bench_pact.specs.declared.View.{View}
+use Rattle.bench_pact.specs.declared.TokenView.{TokenView}
 use Rattle.bench_pact.specs.declared.Deeds.{Deeds}
 use Rattle.bench_pact.specs.Agree.{blank, knower, holder, nobody, joined, keeper_of, holder_of, Fits, Kept, Adds, Writes}
 
@@ -57,18 +57,18 @@ moved_there : (owner : ℕ → ℕ) (place to k : ℕ) → k ≢ place → owner
 moved_there owner place to k n = ⊎_elim (λ h. absurd (n h.1)) (λ h. ap (λ b. cond b to (owner k)) (sym h.0)) (eqb_tells k place)
 
 module _ (seat : ℕ) (log : List Deeds) (owner : ℕ → ℕ) where
-  fits_set : (views : List View) (by : ℕ) (w : View) → ((j : ℕ) (u : View) → j ≢ by → get_elem? views j ≡ some u → Fits seat log owner j u) → Fits seat log owner by w → (j : ℕ) (u : View) → get_elem? (set views by w) j ≡ some u → Fits seat log owner j u
+  fits_set : (views : List TokenView) (by : ℕ) (w : TokenView) → ((j : ℕ) (u : TokenView) → j ≢ by → get_elem? views j ≡ some u → Fits seat log owner j u) → Fits seat log owner by w → (j : ℕ) (u : TokenView) → get_elem? (set views by w) j ≡ some u → Fits seat log owner j u
   fits_set views by w others mine j u e =
       ⊎_elim
-      (λ (x : (j ≡ by) × (w ≡ u)). subst (λ (y : ℕ × View). Fits seat log owner y.0 y.1) (λ i. (sym x.0 i, x.1 i)) mine)
+      (λ (x : (j ≡ by) × (w ≡ u)). subst (λ (y : ℕ × TokenView). Fits seat log owner y.0 y.1) (λ i. (sym x.0 i, x.1 i)) mine)
       (λ (x : (j ≢ by) × (get_elem? views j ≡ some u)). others j u x.0 x.1)
       (at_set views by j w u e)
 
-  fits_end : (views : List View) (w : View) → ((j : ℕ) (u : View) → get_elem? views j ≡ some u → Fits seat log owner j u) → Fits seat log owner (length views) w → (j : ℕ) (u : View) → get_elem? (views ++ w ∷ []) j ≡ some u → Fits seat log owner j u
+  fits_end : (views : List TokenView) (w : TokenView) → ((j : ℕ) (u : TokenView) → get_elem? views j ≡ some u → Fits seat log owner j u) → Fits seat log owner (length views) w → (j : ℕ) (u : TokenView) → get_elem? (views ++ w ∷ []) j ≡ some u → Fits seat log owner j u
   fits_end views w others mine j u e =
       ⊎_elim
       (λ (x : get_elem? views j ≡ some u). others j u x)
-      (λ (x : (j ≡ length views) × (w ≡ u)). subst (λ (y : ℕ × View). Fits seat log owner y.0 y.1) (λ i. (sym x.0 i, x.1 i)) mine)
+      (λ (x : (j ≡ length views) × (w ≡ u)). subst (λ (y : ℕ × TokenView). Fits seat log owner y.0 y.1) (λ i. (sym x.0 i, x.1 i)) mine)
       (at_end views w u j e)
 
   fits_nobody : (by : ℕ) → Fits seat log owner by nobody
@@ -77,11 +77,11 @@ module _ (seat : ℕ) (log : List Deeds) (owner : ℕ → ℕ) where
 pub begins : (words : List ℕ) → Kept words (knower [] ∷ [])
 begins words = (0, [], (λ _. 0), one)
   where
-    one : (by : ℕ) (v : View) → get_elem? (knower [] ∷ []) by ≡ some v → Fits 0 [] (λ _. 0) by v
+    one : (by : ℕ) (v : TokenView) → get_elem? (knower [] ∷ []) by ≡ some v → Fits 0 [] (λ _. 0) by v
     one zero v e = subst (Fits 0 [] (λ _. 0) 0) (some-injective _ _ e) ((λ _. (refl, refl)), (λ c. absurd (off c)))
     one (suc by) v e = absurd (some-ne-none v (sym e))
 
-pub spares : (by : ℕ) (v : View) → Forks Kept by v v nobody
+pub spares : (by : ℕ) (v : TokenView) → Forks Kept by v v nobody
 spares by v words views h at = (h.0, h.1, h.2, λ j u e. fits_end h.0 h.1 h.2 (set views by v) nobody (λ i y e'. h.3 i y (subst (λ l. get_elem? l i ≡ some y) (set_again views by v at) e')) (fits_nobody h.0 h.1 h.2 (length (set views by v))) j u e)
 
 pub adds : (by : ℕ) (all : List Deeds) (new : List ℕ) → Turns Kept by (knower all) (λ _. new) Adds
@@ -142,7 +142,7 @@ takes_in by all other place d words views h at apart there =
       owner,
       fits_set h.0 h.1 owner (set views by w) other nobody
           (λ j u away e. ⊎_elim
-          (λ (t : (j ≡ by) × (w ≡ u)). subst (λ (y : ℕ × View). Fits h.0 h.1 owner y.0 y.1) (λ i. (sym t.0 i, t.1 i)) ((λ _. mine), (λ _. (theirs.0, moved_here h.2 place by))))
+          (λ (t : (j ≡ by) × (w ≡ u)). subst (λ (y : ℕ × TokenView). Fits h.0 h.1 owner y.0 y.1) (λ i. (sym t.0 i, t.1 i)) ((λ _. mine), (λ _. (theirs.0, moved_here h.2 place by))))
           (λ (t : (j ≢ by) × (get_elem? views j ≡ some u)). (
             (λ k. (h.3 j u t.1).0 k),
             (λ k. let f = (h.3 j u t.1).1 k in (f.0, f.1 ∙ moved_there h.2 place by u.place (λ is. away (f.1 ∙ ap h.2 is ∙ sym theirs.1)))),
@@ -175,20 +175,20 @@ writes by all place was d new words views h at =
     )
 
 -- the moves, at views that are known
-pub adds_as : (by : ℕ) (v : View) (all : List Deeds) (new : List ℕ) → v ≡ knower all → Turns Kept by v (λ _. new) Adds
-adds_as by v all new is = subst (λ (u : View). Turns Kept by u (λ _. new) Adds) (sym is) (adds by all new)
+pub adds_as : (by : ℕ) (v : TokenView) (all : List Deeds) (new : List ℕ) → v ≡ knower all → Turns Kept by v (λ _. new) Adds
+adds_as by v all new is = subst (λ (u : TokenView). Turns Kept by u (λ _. new) Adds) (sym is) (adds by all new)
 
-pub parts_as : (by : ℕ) (v : View) (all : List Deeds) (place : ℕ) (d : Deeds) → v ≡ joined (knower all) (holder place d) → Forks Kept by v (keeper_of v) (holder_of v)
-parts_as by v all place d is = subst (λ (u : View). Forks Kept by u (keeper_of u) (holder_of u)) (sym is) (parts by all place d)
+pub parts_as : (by : ℕ) (v : TokenView) (all : List Deeds) (place : ℕ) (d : Deeds) → v ≡ joined (knower all) (holder place d) → Forks Kept by v (keeper_of v) (holder_of v)
+parts_as by v all place d is = subst (λ (u : TokenView). Forks Kept by u (keeper_of u) (holder_of u)) (sym is) (parts by all place d)
 
-pub takes_in_as : (by : ℕ) (v : View) (all : List Deeds) (other : ℕ) (u : View) (place : ℕ) (d : Deeds) → v ≡ knower all → u ≡ holder place d → Merges Kept by v other u (joined v u) nobody
-takes_in_as by v all other u place d is as-is = subst (λ (x : View × View). Merges Kept by x.0 other x.1 (joined x.0 x.1) nobody) (λ i. (sym is i, sym as-is i)) (takes_in by all other place d)
+pub takes_in_as : (by : ℕ) (v : TokenView) (all : List Deeds) (other : ℕ) (u : TokenView) (place : ℕ) (d : Deeds) → v ≡ knower all → u ≡ holder place d → Merges Kept by v other u (joined v u) nobody
+takes_in_as by v all other u place d is as-is = subst (λ (x : TokenView × TokenView). Merges Kept by x.0 other x.1 (joined x.0 x.1) nobody) (λ i. (sym is i, sym as-is i)) (takes_in by all other place d)
 
-pub writes_as : (by : ℕ) (v : View) (all : List Deeds) (place : ℕ) (was d : Deeds) (new : List ℕ) → v ≡ joined (knower all) (holder place was) → Turns Kept by v (λ _. new) (Writes d)
-writes_as by v all place was d new is = subst (λ (u : View). Turns Kept by u (λ _. new) (Writes d)) (sym is) (writes by all place was d new)
+pub writes_as : (by : ℕ) (v : TokenView) (all : List Deeds) (place : ℕ) (was d : Deeds) (new : List ℕ) → v ≡ joined (knower all) (holder place was) → Turns Kept by v (λ _. new) (Writes d)
+writes_as by v all place was d new is = subst (λ (u : TokenView). Turns Kept by u (λ _. new) (Writes d)) (sym is) (writes by all place was d new)
 
-pub both_known : (v u w : View) (all : List Deeds) (place : ℕ) (d : Deeds) → v ≡ knower all → u ≡ holder place d → w ≡ joined v u → w ≡ joined (knower all) (holder place d)
+pub both_known : (v u w : TokenView) (all : List Deeds) (place : ℕ) (d : Deeds) → v ≡ knower all → u ≡ holder place d → w ≡ joined v u → w ≡ joined (knower all) (holder place d)
 both_known v u w all place d is as-is so = so ∙ (λ i. joined (is i) (as-is i))
 
-pub after_write : (v w : View) (all : List Deeds) (place : ℕ) (was d : Deeds) → v ≡ joined (knower all) (holder place was) → Writes d v [] [] w → (w ≡ joined (knower (set all place d)) (holder place d)) × (slice_get all place ≡ Some was)
-after_write v w all place was d is h = subst (λ (u : View). Writes d u [] [] w) is h
+pub after_write : (v w : TokenView) (all : List Deeds) (place : ℕ) (was d : Deeds) → v ≡ joined (knower all) (holder place was) → Writes d v [] [] w → (w ≡ joined (knower (set all place d)) (holder place d)) × (slice_get all place ≡ Some was)
+after_write v w all place was d is h = subst (λ (u : TokenView). Writes d u [] [] w) is h

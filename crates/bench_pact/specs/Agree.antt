@@ -4,7 +4,7 @@ use mathlib.Core.Option.{some}
 use lib.ListN.{get_elem?}
 use Rattle.atomic_table.specs.Seated.{TableId}
 use Rattle.ids.specs.declared.names.EventName.{EventName}
-use Rattle.bench_pact.specs.declared.View.{View}
+use Rattle.bench_pact.specs.declared.TokenView.{TokenView}
 use Rattle.bench_pact.specs.declared.Deeds.{Deeds}
 use Rattle.bench_pact.specs.declared.Act.{Act}
 use Rattle.bench_pact.specs.declared.Act.TheVariants.{Nothing, Enters, Gives, Opens, Closes}
@@ -38,48 +38,48 @@ entered_by (Opens n) = 0
 entered_by (Closes n) = 0
 
 -- the keeper: what each holder has, by its place
-abbrev pub knower : List Deeds → View
+abbrev pub knower : List Deeds → TokenView
 knower all = record { keeps = true; all = all; holds = false; place = 0; deeds = blank }
 
 -- a holder: what it has done, at its place
-abbrev pub holder : ℕ → Deeds → View
+abbrev pub holder : ℕ → Deeds → TokenView
 holder place deeds = record { keeps = false; all = []; holds = true; place = place; deeds = deeds }
 
 -- who knows nothing
-abbrev pub nobody : View
+abbrev pub nobody : TokenView
 nobody = record { keeps = false; all = []; holds = false; place = 0; deeds = blank }
 
 -- the keeper, with a holder's part in hand
-abbrev pub joined : View → View → View
+abbrev pub joined : TokenView → TokenView → TokenView
 joined v w = record { keeps = v.keeps; all = v.all; holds = w.holds; place = w.place; deeds = w.deeds }
 
 -- the keeper without what it has in hand, and what it has in hand
-abbrev pub keeper_of : View → View
+abbrev pub keeper_of : TokenView → TokenView
 keeper_of v = record { keeps = v.keeps; all = v.all; holds = false; place = 0; deeds = blank }
 
-abbrev pub holder_of : View → View
+abbrev pub holder_of : TokenView → TokenView
 holder_of v = record { keeps = false; all = []; holds = v.holds; place = v.place; deeds = v.deeds }
 
-abbrev pub IsKeeper : View → Type 0
+abbrev pub IsKeeper : TokenView → Type 0
 IsKeeper v = v ≡ knower v.all
 
-abbrev pub IsHolder : View → Type 0
+abbrev pub IsHolder : TokenView → Type 0
 IsHolder v = v ≡ holder v.place v.deeds
 
 -- what the rule says of one pass: a keeper is the one keeper and knows all; a holder is the owner of its place, with what all say
-abbrev pub Fits : ℕ → List Deeds → (ℕ → ℕ) → ℕ → View → Type 0
+abbrev pub Fits : ℕ → List Deeds → (ℕ → ℕ) → ℕ → TokenView → Type 0
 Fits seat log owner by v = (v.keeps ≡ true → (by ≡ seat) × (v.all ≡ log)) × (v.holds ≡ true → (slice_get log v.place ≡ Some v.deeds) × (by ≡ owner v.place))
 
 -- there is one keeper and one account of all deeds, and each token fits them
-abbrev pub Kept : List ℕ → List View → Type 0
+abbrev pub Kept : List ℕ → List TokenView → Type 0
 Kept words views =
     (seat : ℕ) × (log : List Deeds) × (owner : ℕ → ℕ)
-    × ((by : ℕ) (v : View) → get_elem? views by ≡ some v → Fits seat log owner by v)
+    × ((by : ℕ) (v : TokenView) → get_elem? views by ≡ some v → Fits seat log owner by v)
 
 -- the keeper adds a place, and has it in hand
-abbrev pub Adds : View → List ℕ → List ℕ → View → Type 0
+abbrev pub Adds : TokenView → List ℕ → List ℕ → TokenView → Type 0
 Adds v before after w = w ≡ joined (knower (v.all ++ blank ∷ [])) (holder (length v.all) blank)
 
 -- the keeper finds at the place in hand what it has in hand, and writes it anew
-abbrev pub Writes : Deeds → View → List ℕ → List ℕ → View → Type 0
+abbrev pub Writes : Deeds → TokenView → List ℕ → List ℕ → TokenView → Type 0
 Writes d v before after w = (w ≡ joined (knower (slice_set v.all v.place d)) (holder v.place d)) × (slice_get v.all v.place ≡ Some v.deeds)

@@ -41,7 +41,7 @@ pub enum Act {
 }
 
 /// What a token knows: a keeper, what each holder has done, by its place; a holder, its place and what it has done. No value of it is made.
-pub struct View {
+pub struct TokenView {
     pub keeps: bool,
     pub all: LinkedList<Deeds>,
     pub holds: bool,
@@ -52,7 +52,7 @@ pub struct View {
 /// The rule of the cell: keeper and holders agree.
 pub struct Agreed;
 
-impl Protocol<[u64; 1], View> for Agreed {
+impl Protocol<[u64; 1], TokenView> for Agreed {
     ghost use Rattle.std.specs.Prelude.{[]};
     ghost use Rattle.bench_pact.specs.Agree.{knower, Kept};
 
@@ -64,29 +64,29 @@ impl Protocol<[u64; 1], View> for Agreed {
 /// The keeper adds a place, and has it in hand.
 pub struct Adding;
 
-impl Outcome<[u64; 1], View> for Adding {
+impl Outcome<[u64; 1], TokenView> for Adding {
     ghost use Rattle.bench_pact.specs.Agree.{Adds};
 
     ghost then = { Adds };
 }
 
 /// What a holder has done now. Each call picks it.
-pub trait Deed {
+pub trait HolderDeed {
     ghost use Rattle.bench_pact.specs.declared.Deeds.{Deeds};
 
     ghost deeds: { Deeds };
 }
 
-impl Deed for Brand {
+impl HolderDeed for Brand {
     ghost use Rattle.bench_pact.specs.Agree.{blank};
 
     ghost deeds = { blank };
 }
 
 /// The keeper writes anew what the holder in hand has done.
-pub struct Writing<W: Deed>(PhantomData<W>);
+pub struct Writing<W: HolderDeed>(PhantomData<W>);
 
-impl<W: Deed> Outcome<[u64; 1], View> for Writing<W> {
+impl<W: HolderDeed> Outcome<[u64; 1], TokenView> for Writing<W> {
     ghost use Rattle.bench_pact.specs.Agree.{Writes};
 
     ghost then = { Writes W.deeds };
@@ -95,7 +95,7 @@ impl<W: Deed> Outcome<[u64; 1], View> for Writing<W> {
 /// A token that knows nothing is cut off.
 pub struct Spare;
 
-impl Split<View> for Spare {
+impl Split<TokenView> for Spare {
     ghost use Rattle.bench_pact.specs.Agree.{nobody};
 
     ghost left = { λ v. v };
@@ -104,9 +104,9 @@ impl Split<View> for Spare {
 }
 
 /// The holder in hand is cut off, or is taken in hand.
-pub struct Part;
+pub struct HolderCut;
 
-impl Split<View> for Part {
+impl Split<TokenView> for HolderCut {
     ghost use Rattle.bench_pact.specs.Agree.{keeper_of, holder_of};
 
     ghost left = { keeper_of };
@@ -114,7 +114,7 @@ impl Split<View> for Part {
     ghost right = { holder_of };
 }
 
-impl Join<View> for Part {
+impl Join<TokenView> for HolderCut {
     ghost use Rattle.bench_pact.specs.Agree.{joined, nobody};
 
     ghost both = { joined };
@@ -122,30 +122,36 @@ impl Join<View> for Part {
     ghost spent = { nobody };
 }
 
-pub type Cell = RuledSeqCell<[u64; 1], View, Agreed, 1>;
+pub type PactCell = RuledSeqCell<[u64; 1], TokenView, Agreed, 1>;
 
-pub type Token = Pass<[u64; 1], View>;
+pub type PactToken = Pass<[u64; 1], TokenView>;
 
 /// A new cell, with its keeper.
-pub fn begin(alloc: Global) -> Result<(Cell, Token), AllocError>
+pub fn begin(alloc: Global) -> Result<(PactCell, PactToken), AllocError>
     ensures { IfOk result (λ c. (c.1.table_id ≡ c.0.table.shared.table_id) × (cell_view c.1 ≡ knower [])) }
 {
-    Cell::ruled(alloc, [0])
+    PactCell::ruled(alloc, [0])
 }
 
 /// A new holder, at the next place.
-pub fn add<R: Wait>(rt: &R, cell: &Cell, keeper: &mut Token) -> Token
+pub fn add<R: Wait>(rt: &R, cell: &PactCell, keeper: &mut PactToken) -> PactToken
     requires cell { keeper.old.table_id ≡ cell.now.table.shared.table_id }
     requires view { IsKeeper (cell_view keeper.old) }
     ensures keeper { (keeper.new.table_id ≡ keeper.old.table_id) × (cell_view keeper.new ≡ knower ((cell_view keeper.old).all ++ blank ∷ [])) }
     ensures holder { (result.table_id ≡ keeper.old.table_id) × (result.me.1 ≡ []) × (cell_view result ≡ holder (length (cell_view keeper.old).all) blank) }
 {
     cell.swap_as::<Adding, R>(rt, keeper, [0]);
-    cell.split_pass::<Part>(keeper)
+    cell.split_pass::<HolderCut>(keeper)
 }
 
 // Writes anew what a holder has done. Keeper and holder agreed on what it was. The act is there for the caller's pick of `W`.
-fn write<W: Deed, R: Wait>(rt: &R, cell: &Cell, keeper: &mut Token, mine: &mut Token, _act: &Act)
+fn write<W: HolderDeed, R: Wait>(
+    rt: &R,
+    cell: &PactCell,
+    keeper: &mut PactToken,
+    mine: &mut PactToken,
+    _act: &Act,
+)
     requires cell { (keeper.old.table_id ≡ cell.now.table.shared.table_id) × (mine.old.table_id ≡ keeper.old.table_id) × (mine.old.me.1 ≡ []) }
     requires view { IsKeeper (cell_view keeper.old) × IsHolder (cell_view mine.old) }
     ensures tokens { (keeper.new.table_id ≡ keeper.old.table_id) × (mine.new.table_id ≡ mine.old.table_id) × (mine.new.me.1 ≡ []) }
@@ -155,13 +161,19 @@ fn write<W: Deed, R: Wait>(rt: &R, cell: &Cell, keeper: &mut Token, mine: &mut T
 {
     let spare = cell.split_pass::<Spare>(keeper);
     let theirs = mem::replace(mine, spare);
-    cell.join_pass::<Part>(keeper, theirs);
+    cell.join_pass::<HolderCut>(keeper, theirs);
     cell.swap_as::<Writing<W>, R>(rt, keeper, [0]);
-    *mine = cell.split_pass::<Part>(keeper);
+    *mine = cell.split_pass::<HolderCut>(keeper);
 }
 
 /// Adds what a holder does to its deeds, on which keeper and holder agreed.
-pub fn note<R: Wait>(rt: &R, cell: &Cell, keeper: &mut Token, mine: &mut Token, act: &Act)
+pub fn note<R: Wait>(
+    rt: &R,
+    cell: &PactCell,
+    keeper: &mut PactToken,
+    mine: &mut PactToken,
+    act: &Act,
+)
     requires cell { (keeper.old.table_id ≡ cell.now.table.shared.table_id) × (mine.old.table_id ≡ keeper.old.table_id) × (mine.old.me.1 ≡ []) }
     requires view { IsKeeper (cell_view keeper.old) × IsHolder (cell_view mine.old) }
     ensures tokens { (keeper.new.table_id ≡ keeper.old.table_id) × (mine.new.table_id ≡ mine.old.table_id) × (mine.new.me.1 ≡ []) }

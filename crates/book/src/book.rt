@@ -54,7 +54,7 @@ use post::program::{Question, Script};
 use post::published::Published;
 use post::vat::Vat;
 use std::alloc::{AllocError, Global};
-use turn_deliveries::outcome::Ended;
+use turn_deliveries::outcome::TurnEnd;
 use undo::records::keys_of;
 use undo::undoing::{Core, Deed};
 use world_cells::event::{Action, Event};
@@ -76,7 +76,7 @@ pub(crate) const NO_SEAT: u64 = 0;
 #[derive(Drop)]
 pub struct Turned {
     pub event: EventName,
-    pub ended: Ended,
+    pub ended: TurnEnd,
 }
 
 /// All that has happened: the world, the journal whose live events made it, the next event's name, and the tickets that are out.

@@ -8,7 +8,7 @@ use journal::entry::Mark;
 use kernele::tree::Program;
 use post::program::{Question, Script};
 use std::process::Abort;
-use turn_deliveries::outcome::Ended;
+use turn_deliveries::outcome::TurnEnd;
 use values::value::Value;
 
 /// The budget of turns and tickets.
@@ -89,7 +89,12 @@ pub(crate) fn ask(
 }
 
 /// Runs the turn of the first message of an event, and its number is this.
-pub(crate) fn turn(rt: &(impl Abort + AllocGlobal), book: &mut Book, of: u32, event: u32) -> Ended {
+pub(crate) fn turn(
+    rt: &(impl Abort + AllocGlobal),
+    book: &mut Book,
+    of: u32,
+    event: u32,
+) -> TurnEnd {
     match book.turn(message(of), BUDGET) {
         Ok(turned) => {
             assert!(rt; turned.event == EventName(event));
@@ -134,9 +139,9 @@ pub(crate) fn expect_journal(rt: &impl Abort, book: &Book, wanted: &[(u32, Mark)
 }
 
 /// A turn ended with this integer.
-pub(crate) fn expect_integer(rt: &impl Abort, ended: &Ended, wanted: i64) {
+pub(crate) fn expect_integer(rt: &impl Abort, ended: &TurnEnd, wanted: i64) {
     match ended {
-        Ended::Value(Value::Int(found)) => assert!(rt; *found == wanted),
+        TurnEnd::Value(Value::Int(found)) => assert!(rt; *found == wanted),
         _ => rt.panic("no integer"),
     }
 }

@@ -6,7 +6,7 @@ use Rattle.kernele.specs.Tree.{Name}
 use Rattle.kernele_scopes.specs.Free.{is_among}
 use Rattle.code.specs.Frames.{Frame, newest, or_oldest, place_at, place_in}
 use Rattle.code.specs.Newest.{IsNewest}
-use Rattle.code.specs.declared.code.Place.TheVariants as place
+use Rattle.code.specs.declared.code.NounPlace.TheVariants as place
 
 -- a name that is the oldest, or is not there
 among_case : (ys : Frame) (x : Name) (here : Bool) → or_oldest None here ≡ None → is_among ys x ≡ false → cond here true (is_among ys x) ≡ false

@@ -6,8 +6,8 @@ use Rattle.kernele.specs.declared.tree.Pattern.TheVariants as binding
 use Rattle.kernele_scopes.specs.Scope.{name_of, names_of_all, own_names, own_names_in}
 use Rattle.kernele_scopes.specs.Free.{captures, when_captures}
 use Rattle.kernele_scopes.specs.declared.naming.TopName.{TopName}
-use Rattle.code.specs.declared.code.Place.{Place}
-use Rattle.code.specs.declared.code.Place.TheVariants as place
+use Rattle.code.specs.declared.code.NounPlace.{NounPlace}
+use Rattle.code.specs.declared.code.NounPlace.TheVariants as place
 use Rattle.code.specs.declared.code.Capture.{Capture}
 use Rattle.code.specs.declared.code.Code as code
 use Rattle.code.specs.declared.code.Code.{Code}
@@ -48,12 +48,12 @@ abbrev pub newest : Frame → Name → Option ℕ
 newest [] x = None
 newest (y ∷ ys) x = or_oldest (newest ys x) (bytes_eq y x)
 
-abbrev pub place_at : Option ℕ → Place
+abbrev pub place_at : Option ℕ → NounPlace
 place_at (Some i) = place.Frame i
 place_at None = place.Top
 
 -- where what a name stands for is found: at the newest name of its spelling, else outside the frame
-abbrev pub place_in : Frame → Name → Place
+abbrev pub place_in : Frame → Name → NounPlace
 place_in frame x = place_at (newest frame x)
 
 -- what is captured is found in this frame

@@ -2,7 +2,7 @@
 use Rattle.std.specs.Prelude.{◌≡◌, ℕ, List, ◌∷◌, ◌++◌, length, false}
 use Rattle.kernele.specs.Tree.{Name}
 use Rattle.kernele_scopes.specs.Free.{is_among}
-use Rattle.code.specs.declared.code.Place.TheVariants as place
+use Rattle.code.specs.declared.code.NounPlace.TheVariants as place
 use Rattle.code.specs.Frames.{Frame, place_in}
 
 -- a name stands at this position of a frame, counted from the oldest, and no newer one has its spelling

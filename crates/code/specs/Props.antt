@@ -6,7 +6,7 @@ use Rattle.kernele.specs.Tree.{Methods, none}
 use Rattle.kernele.specs.declared.tree.Pattern.TheVariants as binding
 use Rattle.kernele_scopes.specs.Scope.{name_of, names_of_all}
 use Rattle.kernele_scopes.specs.Free.{captures, when_captures}
-use Rattle.code.specs.declared.code.Place.{Place}
+use Rattle.code.specs.declared.code.NounPlace.{NounPlace}
 use Rattle.code.specs.declared.code.Capture.{Capture}
 use Rattle.code.specs.declared.code.Code as code
 use Rattle.code.specs.declared.code.Code.{Code}
@@ -16,7 +16,7 @@ use Rattle.code.specs.View.{tree_of_code, trees_of_code_row, methods_of_code_row
 use Rattle.code.specs.Index.{position_in, found_at, index_in, index_fits}
 use Rattle.code.specs.Frames.{Frame, only_names, after, place_in, all_placed, captured_names_of, fits, fits_row, fits_methods_row, fits_all, fits_methods}
 
-Place-set : IsSet Place
+Place-set : IsSet NounPlace
 Place-set = hlevel props
 
 Frame-set : IsSet Frame

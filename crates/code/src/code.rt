@@ -8,7 +8,7 @@ use values::verb::Verb;
 
 /// Where what a name stands for is found.
 #[derive(Clone, Copy)]
-pub enum Place {
+pub enum NounPlace {
     /// At this position in the frame, counted from its oldest name.
     Frame(usize),
     /// Outside the frame: among the vat's top nouns.
@@ -19,7 +19,7 @@ pub enum Place {
 #[derive(Drop)]
 pub struct Capture {
     pub name: Text,
-    pub place: Place,
+    pub place: NounPlace,
 }
 
 /// An expression whose names are resolved.
@@ -29,11 +29,11 @@ pub enum Code {
     Bool(bool),
     Int(i64),
     Text(Text),
-    Noun(Text, Place),
+    Noun(Text, NounPlace),
     Def(Pattern, Arc<Code>),
     Var(Text, Arc<Code>),
     /// The name is looked up behind the right side.
-    Assign(Text, Place, Arc<Code>),
+    Assign(Text, NounPlace, Arc<Code>),
     Call(Arc<Code>, Verb, Arc<Vec<Code>>),
     List(Arc<Vec<Code>>),
     Same(Arc<Code>, Arc<Code>),

@@ -15,7 +15,7 @@ use Rattle.code.specs.View.{tree_of_code, methods_of_codes}
 use Rattle.code.specs.Index.{index_in, index_fits}
 use Rattle.code.specs.Frames.{Frame, only_names, behind, after, place_in, all_placed, captured_names_of, fits, fits_all, fits_methods}
 use Rattle.code_resolver.specs.Resolves.{Resolves, ResolvesAll, ResolvesBlock, ResolvesMethods}
-use Rattle.code.specs.declared.code.Place.{Place}
+use Rattle.code.specs.declared.code.NounPlace.{NounPlace}
 use Rattle.code.specs.declared.code.Capture.{Capture}
 use Rattle.code.specs.declared.code.Code as code
 use Rattle.code.specs.declared.code.Code.{Code}
@@ -57,7 +57,7 @@ grown_both {own = own} {f = f} {t = t} more r e = e ∙ ap (behind own (only_nam
 pub resolved_leaf : {own : Bool} {f g : Frame} {t : Tree} {c : Code} → tree_of_code c ≡ t → own_names t ≡ [] → fits own f c → g ≡ f → Resolves own f t c g
 resolved_leaf {own = own} {f = f} is leaf h same = record { tree = is; fitting = h; grown = same ∙ sym (ap (λ names. behind own (only_names names) f) leaf ∙ behind-nothing own f) }
 
-pub resolved_noun : {own : Bool} {f : Frame} {x y : Name} {place : Place} → y ≡ x → place ≡ place_in f x → Resolves own f (noun x) (code.Noun y place) f
+pub resolved_noun : {own : Bool} {f : Frame} {x y : Name} {place : NounPlace} → y ≡ x → place ≡ place_in f x → Resolves own f (noun x) (code.Noun y place) f
 resolved_noun {f = f} {place = place} named at = resolved_leaf (ap noun named) refl (at ∙ ap (place_in f) (sym named)) refl
 
 pub resolved_def : {own : Bool} {f g h : Frame} {p q : Pattern} {t : Tree} {r : Arc Code Global} → q ≡ p → Resolves own f t r.value g → h ≡ behind own (only_names (name_of p)) g → Resolves own f (define p t) (code.Def q r) h
@@ -66,7 +66,7 @@ resolved_def {p = p} bound a e = record { tree = λ i. define (bound i) (a.tree 
 pub resolved_var : {own : Bool} {f g h : Frame} {x y : Name} {t : Tree} {r : Arc Code Global} → y ≡ x → Resolves own f t r.value g → h ≡ behind own (x ∷ []) g → Resolves own f (variable x t) (code.Var y r) h
 resolved_var {x = x} named a e = record { tree = λ i. variable (named i) (a.tree i); fitting = a.fitting; grown = grown_both (variable_name x ∷ []) a e }
 
-pub resolved_assign : {own : Bool} {f g : Frame} {x y : Name} {place : Place} {t : Tree} {r : Arc Code Global} → y ≡ x → Resolves own f t r.value g → place ≡ place_in g x → Resolves own f (assign x t) (code.Assign y place r) g
+pub resolved_assign : {own : Bool} {f g : Frame} {x y : Name} {place : NounPlace} {t : Tree} {r : Arc Code Global} → y ≡ x → Resolves own f t r.value g → place ≡ place_in g x → Resolves own f (assign x t) (code.Assign y place r) g
 resolved_assign named a at = record { tree = λ i. assign (named i) (a.tree i); fitting = (a.fitting, at ∙ λ i. place_in (next_frame a i) (sym named i)); grown = a.grown }
 
 pub resolved_def_list : {own : Bool} {f g h : Frame} {t : Tree} (ps qs : Arc (Vec Pattern Global) Global) (r : Arc Code Global) → qs.value.items ≡ ps.value.items → Resolves own f t r.value g

@@ -5,7 +5,7 @@ use Rattle.std.specs.Str.{bytes_eq}
 use Rattle.kernele.specs.Tree.{Name}
 use Rattle.kernele.proofs.Walks.{items_from}
 use Rattle.code.specs.Frames.{Frame, newest, or_oldest, place_at, place_in, all_placed, captured_names_of}
-use Rattle.code.specs.declared.code.Place.TheVariants as place
+use Rattle.code.specs.declared.code.NounPlace.TheVariants as place
 use Rattle.code.specs.declared.code.Capture.{Capture}
 
 first_alone : (b : Bool) → or_oldest None b ≡ cond b (Some 0) None

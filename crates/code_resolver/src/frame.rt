@@ -3,23 +3,23 @@ ghost use Rattle.std.specs.Prelude.{◌≡◌, [], ◌∷◌, ◌++◌, OnOk, If
 ghost use Rattle.kernele_scopes.specs.Scope.{name_of, names_of_all};
 ghost use Rattle.code.specs.Frames.{all_placed, behind, captured_names_of, only_names, place_in};
 
-use code::code::{Capture, Place};
+use code::code::{Capture, NounPlace};
 use ids::text::Text;
 use kernele::tree::Pattern;
 use std::alloc::{AllocError, Global};
 
 /// Where what a name stands for is found: at the newest name of its spelling.
-pub(crate) fn find_place(frame: &[Text], name: &Text) -> Place
+pub(crate) fn find_place(frame: &[Text], name: &Text) -> NounPlace
     ensures { result ≡ place_in frame.now name.now }
 {
     let mut rest = frame;
     while let Some((newest, older)) = rest.split_last() {
         if *newest == *name {
-            return Place::Frame(older.len());
+            return NounPlace::Frame(older.len());
         }
         rest = older;
     }
-    Place::Top
+    NounPlace::Top
 }
 
 /// Adds a name, unless it goes to the vat's top nouns.

@@ -9,17 +9,21 @@ use std::alloc::{AllocError, Global};
 
 /// What a send leaves: what the message is sent after, and the fence of its target.
 #[derive(Drop)]
-pub struct Sent {
+pub struct SendFences {
     pub after: Fence,
     pub fence: Fence,
 }
 
 /// A message is sent on a reference: it comes after what the fence had, and then the fence has it alone.
-pub fn on_send(alloc: Global, cell: Option<&Fence>, message: MsgId) -> Result<Sent, AllocError>
+pub fn on_send(
+    alloc: Global,
+    cell: Option<&Fence>,
+    message: MsgId,
+) -> Result<SendFences, AllocError>
     ensures after { IfOk result (λ sent. sent.after ≡ names_in (option_copied cell.entry)) }
     ensures alone { IfOk result (λ sent. sent.fence ≡ message ∷ []) }
 {
-    Ok(Sent {
+    Ok(SendFences {
         after: on_pass(alloc, cell)?,
         fence: Fence::alone(alloc, message),
     })

@@ -4,7 +4,7 @@ use Rattle.std.specs.declared.vec.Vec.{Vec}
 use Rattle.std.specs.declared.alloc.Global.{Global}
 use Rattle.etoken.specs.declared.token.Token.{Token}
 use Rattle.kernele.specs.declared.tree.Expr.{Expr}
-use Rattle.ereader_signs.specs.declared.stop.Stop.{Stop}
+use Rattle.ereader_signs.specs.declared.stop.ReadStop.{ReadStop}
 use Rattle.ereader_parser.specs.View.{Fails}
 use Rattle.etoken.specs.declared.token.Placed.{Placed}
 use Rattle.kernele.specs.declared.tree.Program.{Program}
@@ -14,7 +14,7 @@ use Rattle.ereader.specs.declared.fault.ReadFault.{ReadFault}
 use Rattle.ereader.specs.declared.fault.ReadFault.TheVariants as fault
 
 -- the items that all tokens spell are what reading gives, unless memory ran out
-abbrev pub GivesAll : Result (Vec Expr Global) Stop → Option (Trees × List Token) → Type 0
+abbrev pub GivesAll : Result (Vec Expr Global) ReadStop → Option (Trees × List Token) → Type 0
 GivesAll (Ok es) read = read ≡ Some (trees_of es.items, [])
 GivesAll (Err e) read = Fails e read
 

@@ -18,7 +18,7 @@ pub mod theorems;
 
 use crate::fault::ReadFault;
 use ereader_parser::Reader;
-use ereader_signs::stop::Stop;
+use ereader_signs::stop::ReadStop;
 use etoken::token::Placed;
 use etoken::tokens::tokens;
 use kernele::tree::{Block, Expr, Program};
@@ -70,8 +70,8 @@ fn read_items(alloc: Global, tokens: &[Placed], length: usize) -> Result<Vec<Exp
     };
     match all_items(&mut reader, tokens.len()) {
         Ok(items) => Ok(items),
-        Err(Stop::Memory) => Err(ReadFault::Memory),
-        Err(Stop::Unexpected) => {
+        Err(ReadStop::Memory) => Err(ReadFault::Memory),
+        Err(ReadStop::Unexpected) => {
             let index = tokens.len().saturating_sub(reader.rest.len());
             Err(ReadFault::Unexpected(place_at(tokens, index, length)))
         }
@@ -79,12 +79,12 @@ fn read_items(alloc: Global, tokens: &[Placed], length: usize) -> Result<Vec<Exp
 }
 
 /// The items that all the tokens of a reader spell, where parts lie within one another at most `left` deep.
-fn all_items(reader: &mut Reader, left: usize) -> Result<Vec<Expr>, Stop>
+fn all_items(reader: &mut Reader, left: usize) -> Result<Vec<Expr>, ReadStop>
     ensures { GivesAll result (all_at (within_at left) (left_of reader.old)) }
 {
     let items = reader.block(left)?;
     if !reader.rest.is_empty() {
-        return Err(Stop::Unexpected);
+        return Err(ReadStop::Unexpected);
     }
     Ok(items)
 }

@@ -7,8 +7,8 @@ use Rattle.kernele.specs.declared.tree.Pattern.{Pattern}
 use Rattle.kernele.specs.Tree.{Name, Tree, null_tree, bool_tree, noun, call, same_tree, if_tree, object_tree, escape_tree, send, Trees, none, and_then, no_methods, and_method}
 use Rattle.ereader_signs.specs.declared.operator.Operator.{Operator}
 use Rattle.ereader_signs.specs.declared.operator.Operator.TheVariants as operator
-use Rattle.ereader_signs.specs.declared.operator.Link.{Link}
-use Rattle.ereader_signs.specs.declared.operator.Link.TheVariants as link
+use Rattle.ereader_signs.specs.declared.operator.CallSign.{CallSign}
+use Rattle.ereader_signs.specs.declared.operator.CallSign.TheVariants as link
 use Rattle.ereader_signs.specs.declared.operator.Prefix.{Prefix}
 use Rattle.ereader_signs.specs.declared.operator.Prefix.TheVariants as prefix
 use Rattle.ereader_forms.specs.declared.words.RefWord.{RefWord}
@@ -43,7 +43,7 @@ prefix_verb prefix.Not = codes "not"
 prefix_verb prefix.Negate = codes "negate"
 
 -- what is made of a receiver: a call of it, or a send
-abbrev pub linked : Link → Tree → Name → Trees → Tree
+abbrev pub linked : CallSign → Tree → Name → Trees → Tree
 linked link.Method t verb ts = call t verb ts
 linked link.Run t verb ts = call t verb ts
 linked link.Index t verb ts = call t verb ts

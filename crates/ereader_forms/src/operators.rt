@@ -5,7 +5,7 @@ ghost use Rattle.kernele.specs.View.{tree_of, trees_of};
 ghost use Rattle.ereader_forms.specs.Forms.{binary as binary_tree, joined, linked, prefix_verb};
 
 use ereader_nodes::nodes::{call, choose, one, send};
-use ereader_signs::operator::{Link, Operator, Prefix};
+use ereader_signs::operator::{CallSign, Operator, Prefix};
 use ids::text::Text;
 use kernele::tree::Expr;
 use std::alloc::{AllocError, Global};
@@ -89,7 +89,7 @@ pub fn join(
 /// What is made of a receiver: a call of it, or a send.
 pub fn link(
     alloc: Global,
-    link: Link,
+    link: CallSign,
     receiver: Arc<Expr>,
     verb: Text,
     args: Vec<Expr>,
@@ -97,8 +97,8 @@ pub fn link(
     ensures { IfOk result (λ e. tree_of e ≡ linked link (tree_of receiver.value) verb (trees_of args.items)) }
 {
     match link {
-        Link::Method | Link::Run | Link::Index => call(alloc, receiver, verb, args),
-        Link::Send => send(alloc, receiver, verb, args),
+        CallSign::Method | CallSign::Run | CallSign::Index => call(alloc, receiver, verb, args),
+        CallSign::Send => send(alloc, receiver, verb, args),
     }
 }
 

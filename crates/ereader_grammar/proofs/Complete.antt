@@ -7,7 +7,7 @@ use Rattle.etoken.specs.declared.token.Sign as signs
 use Rattle.etoken.specs.declared.token.Sign.TheVariants as sign
 use Rattle.kernele.specs.declared.tree.Pattern.{Pattern}
 use Rattle.kernele.specs.Tree.{Name, Tree, null_tree, define, define_list, variable, assign, call, list_tree, hide, if_tree, while_tree, for_tree, try_tree, throw_tree, object_tree, escape_tree, send, when_tree, when_catch_tree, break_ref, state_ref, Trees, none, and_then, Methods}
-use Rattle.ereader_signs.specs.declared.operator.Link.TheVariants as link
+use Rattle.ereader_signs.specs.declared.operator.CallSign.TheVariants as link
 use Rattle.etoken.specs.declared.breaks.Bracket.{Bracket}
 use Rattle.etoken.specs.declared.breaks.Bracket.TheVariants as bracket
 use Rattle.ereader_signs.specs.Signs.{product_operator, sum_operator, comparison_operator, and_operator, or_operator, link_of}

@@ -12,8 +12,8 @@ use Rattle.etoken.specs.declared.token.Sign.TheVariants as sign
 use Rattle.kernele.specs.declared.tree.Pattern.{Pattern}
 use Rattle.kernele.specs.Tree.{Name, Tree, null_tree, define, define_list, variable, assign, call, list_tree, hide, if_tree, while_tree, for_tree, try_tree, throw_tree, object_tree, escape_tree, send, when_tree, when_catch_tree, new_promise, break_ref, state_ref, Trees, none, and_then, Methods, no_methods}
 use Rattle.ereader_signs.specs.declared.operator.Operator.{Operator}
-use Rattle.ereader_signs.specs.declared.operator.Link.{Link}
-use Rattle.ereader_signs.specs.declared.operator.Link.TheVariants as link
+use Rattle.ereader_signs.specs.declared.operator.CallSign.{CallSign}
+use Rattle.ereader_signs.specs.declared.operator.CallSign.TheVariants as link
 use Rattle.etoken.specs.declared.breaks.Bracket.{Bracket}
 use Rattle.etoken.specs.declared.breaks.Bracket.TheVariants as bracket
 use Rattle.ereader_signs.specs.Signs.{product_operator, sum_operator, comparison_operator, and_operator, or_operator, prefix_operator, link_of, closer}
@@ -679,7 +679,7 @@ module _ (within : Within)
     | inr h ↦ postfix_send (subst (λ z. Postfix a t (token.Sign sign.SendTo ∷ z)) (verb_front b (v, c) h.1) s) p
   ]
 
-  sound_linked : (s : signs.Sign) (l : Link) (a b c r : List Token) (t : Tree) (ts : Trees) (v : Name)
+  sound_linked : (s : signs.Sign) (l : CallSign) (a b c r : List Token) (t : Tree) (ts : Trees) (v : Name)
       → link_of s ≡ Some l → verb_at l b ≡ Some (v, c) → Postfix a t (token.Sign s ∷ b) → Args c ts (token.Sign (close_sign (closer l)) ∷ r) → Postfix a (linked l t v ts) r
   sound_linked sign.Dot link.Method a b c r t ts v k e s p = sound_method a b c r t ts v e s p
   sound_linked sign.OpenRound link.Run a b c r t ts v k e s p =

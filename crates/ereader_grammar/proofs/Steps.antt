@@ -9,7 +9,7 @@ use Rattle.kernele.specs.Tree.{Tree, Trees, none, Methods, no_methods, and_metho
 use Rattle.kernele.specs.declared.tree.Method.{Method}
 use Rattle.kernele.specs.View.{trees_of, methods_of}
 use Rattle.ereader_signs.specs.declared.operator.Operator.{Operator}
-use Rattle.ereader_signs.specs.declared.operator.Link.{Link}
+use Rattle.ereader_signs.specs.declared.operator.CallSign.{CallSign}
 use Rattle.ereader_forms.specs.Forms.{joined, snoc}
 use Rattle.ereader_nodes.specs.Nodes.{MethodTree}
 use Rattle.ereader_signs.specs.Signs.{link_of}
@@ -56,15 +56,15 @@ module _ (of : signs.Sign → Option Operator) (part : List Token → Read Tree)
   operand_end {t = t} {a = a} c e = turns_end (operand_next of part) c (ap (λ o. or_else o None (λ o. Some (part (rest_of a) >>= λ x. Some (joined o t x.0, x.1)))) e)
 
 module _ (within : Within) where
-  pub postfix_goes : (t : Tree) (a : List Token) {l : Link} → front link_of a ≡ Some l → postfix_next within t a ≡ Some (linked_at within l t (rest_of a))
+  pub postfix_goes : (t : Tree) (a : List Token) {l : CallSign} → front link_of a ≡ Some l → postfix_next within t a ≡ Some (linked_at within l t (rest_of a))
   postfix_goes t a e = ap (λ o. or_else o None (λ l. Some (linked_at within l t (rest_of a)))) e
 
-  pub postfix_more : {read : Read Tree} {t : Tree} (u : Tree) {a : List Token} (b r : List Token) {l : Link}
+  pub postfix_more : {read : Read Tree} {t : Tree} (u : Tree) {a : List Token} (b r : List Token) {l : CallSign}
       → Turns (postfix_next within) read t a → front link_of a ≡ Some l → b ≡ rest_of a → linked_at within l t b ≡ Some (u, r) → length r ≤ length b → Turns (postfix_next within) read u r
   postfix_more {t = t} u {a = a} b r {l = l} c e k g h =
       turns_more (postfix_next within) (linked_at within l t (rest_of a)) c (postfix_goes t a e) (ap (linked_at within l t) (sym k) ∙ g) (omega (arith, h, ap length k, front_length link_of a e))
 
-  pub postfix_fail : {read : Read Tree} {t : Tree} {a : List Token} (b : List Token) {l : Link}
+  pub postfix_fail : {read : Read Tree} {t : Tree} {a : List Token} (b : List Token) {l : CallSign}
       → Turns (postfix_next within) read t a → front link_of a ≡ Some l → b ≡ rest_of a → linked_at within l t b ≡ None → read ≡ None
   postfix_fail {t = t} {a = a} b {l = l} c e k g =
       turns_fail (postfix_next within) (linked_at within l t (rest_of a)) c (postfix_goes t a e) (ap (linked_at within l t) (sym k) ∙ g) (omega (arith, front_length link_of a e))

@@ -10,7 +10,7 @@ use Rattle.kernele.specs.declared.tree.Pattern.{Pattern}
 use Rattle.kernele.specs.declared.tree.Pattern.TheVariants as pattern
 use Rattle.kernele.specs.Tree.{Name, Tree, null_tree, int_tree, text_tree, noun, call, list_tree, hide, if_tree, while_tree, for_tree, try_tree, throw_tree, object_tree, escape_tree, when_tree, when_catch_tree, new_promise, break_ref, state_ref, Trees, none, and_then, Methods, no_methods}
 use Rattle.ereader_signs.specs.declared.operator.Operator.{Operator}
-use Rattle.ereader_signs.specs.declared.operator.Link.{Link}
+use Rattle.ereader_signs.specs.declared.operator.CallSign.{CallSign}
 use Rattle.etoken.specs.declared.breaks.Bracket.{Bracket}
 use Rattle.etoken.specs.declared.breaks.Bracket.TheVariants as bracket
 use Rattle.ereader_signs.specs.Signs.{product_operator, sum_operator, comparison_operator, and_operator, or_operator, prefix_operator, link_of, is_send, verb_of, closer}
@@ -511,15 +511,15 @@ abbrev pub send_verb_at : List Token → Read Name
 send_verb_at a = cond (is_open bracket.Round (sign_in a)) (Some (codes "run", rest_of a)) (method_verb_at a)
 
 -- that of a call
-abbrev pub call_verb_at : Link → List Token → Read Name
+abbrev pub call_verb_at : CallSign → List Token → Read Name
 call_verb_at l a = or_else (verb_of l) (method_verb_at a) (λ v. Some (v, a))
 
 -- the verb, up to the arguments
-abbrev pub verb_at : Link → List Token → Read Name
+abbrev pub verb_at : CallSign → List Token → Read Name
 verb_at l a = cond (is_send l) (send_verb_at a) (call_verb_at l a)
 
 -- a call of t or a message to it, behind what makes it one
-abbrev pub linked_at : Within → Link → Tree → List Token → Read Tree
+abbrev pub linked_at : Within → CallSign → Tree → List Token → Read Tree
 linked_at within l t a = verb_at l a >>= λ v. args_at within (closer l) v.1 >>= λ x. Some (linked l t v.0 x.0, x.1)
 
 abbrev pub postfix_next : Within → Tree → List Token → Option (Read Tree)

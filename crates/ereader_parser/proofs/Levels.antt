@@ -5,8 +5,8 @@ use Rattle.kernele.specs.Tree.{Tree}
 use Rattle.ereader_signs.specs.Signs.{operator_of, product_operator}
 use Rattle.ereader_grammar.specs.Reading.{or_else, Within, within_at, unary_at, operands_from, comparison_from}
 use Rattle.ereader_grammar.proofs.Shorter.{shorter_unary, shorter_product, shorter_sum, shorter_comparison, shorter_conjunction, shorter_disjunction}
-use Rattle.ereader_signs.specs.declared.stop.Stop.{Stop}
-use Rattle.ereader_signs.specs.declared.stop.Stop.TheVariants as stop
+use Rattle.ereader_signs.specs.declared.stop.ReadStop.{ReadStop}
+use Rattle.ereader_signs.specs.declared.stop.ReadStop.TheVariants as stop
 use Rattle.ereader_signs.specs.declared.operator.Level.{Level}
 use Rattle.ereader_signs.specs.declared.operator.Level.TheVariants as level
 use Rattle.ereader_parser.specs.Levels.{tighter, joins_two, level_at, level_from}
@@ -55,7 +55,7 @@ module _ (within : Within) where
   first_none level.Product a e = rw e refl
   first_none level.Unary a e = e
 
-  pub first_fails : (e : Stop) (l : Level) (a : List Token) → Fails e (unary_at within a) → Fails e (level_at l within a)
+  pub first_fails : (e : ReadStop) (l : Level) (a : List Token) → Fails e (unary_at within a) → Fails e (level_at l within a)
   first_fails stop.Unexpected l a f = first_none l a f
   first_fails stop.Memory l a f = tt
 
@@ -103,7 +103,7 @@ module _ (within : Within) where
     behind_none : (l k : Level) → tighter l ≡ Some k → level_from k within t a ≡ None → level_from l within t a ≡ None
     behind_none l k e = subst (λ k. level_from k within t a ≡ None → level_from l within t a ≡ None) (tighter_is l k e) (none_below l k e)
 
-    pub behind_fails : (e : Stop) (l k : Level) → tighter l ≡ Some k → Fails e (level_from k within t a) → Fails e (level_from l within t a)
+    pub behind_fails : (e : ReadStop) (l k : Level) → tighter l ≡ Some k → Fails e (level_from k within t a) → Fails e (level_from l within t a)
     behind_fails stop.Unexpected l k e f = behind_none l k e f
     behind_fails stop.Memory l k e f = tt
 

@@ -13,8 +13,8 @@ use Rattle.etoken.specs.declared.breaks.Bracket.TheVariants as bracket
 use Rattle.ereader_signs.specs.declared.operator.Operator.{Operator}
 use Rattle.ereader_signs.specs.declared.operator.Prefix.{Prefix}
 use Rattle.ereader_signs.specs.Signs.{prefix_operator, comparison_operator}
-use Rattle.ereader_signs.specs.declared.stop.Stop.{Stop}
-use Rattle.ereader_signs.specs.declared.stop.Stop.TheVariants as stop
+use Rattle.ereader_signs.specs.declared.stop.ReadStop.{ReadStop}
+use Rattle.ereader_signs.specs.declared.stop.ReadStop.TheVariants as stop
 use Rattle.ereader_forms.specs.Forms.{joined, alone, function_tree, block_of, snoc}
 use Rattle.ereader_nodes.specs.declared.target.Target.{Target}
 use Rattle.ereader_nodes.specs.Nodes.{MethodTree, method_tree}
@@ -28,7 +28,7 @@ use Rattle.ereader_parser.specs.Heads.{head_at, method_head_at, parameters_at, b
 use Rattle.ereader_parser.specs.View.{left_of, Fails, Gives, GivesMany, GivesHead, GivesPlace, GoesTo, Makes, MakesMany, MakesHead, PutsItem}
 
 -- an expression that lies within others has one level fewer for its parts
-pub expression_gives : (r : Result Expr Stop) (n : ℕ) (old new : Reader) → 1 ≤ n → Gives r old new (disjunction_at (within_at (n - 1))) → Gives r old new (within_at n).expression
+pub expression_gives : (r : Result Expr ReadStop) (n : ℕ) (old new : Reader) → 1 ≤ n → Gives r old new (disjunction_at (within_at (n - 1))) → Gives r old new (within_at n).expression
 unfolding within_at
 expression_gives (Err stop.Memory) n old new h g = tt
 expression_gives _ zero old new h g = absurd (omega arith)
@@ -51,7 +51,7 @@ else_if_is (suc n) a b d h e f g k w =
     let m : suc n - 1 ≡ n = omega arith in
     rw (e, ← f, g, ← k, rw m at w)
 
-pub else_if_fails : (s : Stop) (n : ℕ) (a b d : List Token) → 1 ≤ n → is_at_word is_else_word a ≡ true → b ≡ rest_of a → is_at_word is_if_word b ≡ true → d ≡ rest_of b → Fails s (if_at (within_at (n - 1)) d) → Fails s (else_at (within_at n) a)
+pub else_if_fails : (s : ReadStop) (n : ℕ) (a b d : List Token) → 1 ≤ n → is_at_word is_else_word a ≡ true → b ≡ rest_of a → is_at_word is_if_word b ≡ true → d ≡ rest_of b → Fails s (if_at (within_at (n - 1)) d) → Fails s (else_at (within_at n) a)
 unfolding within_at
 else_if_fails stop.Memory n a b d h e f g k w = tt
 else_if_fails stop.Unexpected zero a b d h e f g k w = absurd (omega arith)
@@ -64,22 +64,22 @@ unfolding within_at
 else_if_none a b e f g = rw (e, ← f, g)
 
 -- what is made of parts that were read is what is read of the whole
-pub makes : (r : Result Expr Stop) (old new : Reader) (read : List Token → Read Tree) {t : Tree} → Makes r t → read (left_of old) ≡ Some (t, left_of new) → Gives r old new read
+pub makes : (r : Result Expr ReadStop) (old new : Reader) (read : List Token → Read Tree) {t : Tree} → Makes r t → read (left_of old) ≡ Some (t, left_of new) → Gives r old new read
 makes (Ok e) old new read m h = rw m h
 makes (Err stop.Unexpected) old new read m h = absurd (cc)
 makes (Err stop.Memory) old new read m h = tt
 
-pub makes_many : (r : Result (Vec Expr Global) Stop) (old new : Reader) (read : List Token → Read Trees) {ts : Trees} → MakesMany r ts → read (left_of old) ≡ Some (ts, left_of new) → GivesMany r old new read
+pub makes_many : (r : Result (Vec Expr Global) ReadStop) (old new : Reader) (read : List Token → Read Trees) {ts : Trees} → MakesMany r ts → read (left_of old) ≡ Some (ts, left_of new) → GivesMany r old new read
 makes_many (Ok es) old new read m h = rw m h
 makes_many (Err stop.Unexpected) old new read m h = absurd (cc)
 makes_many (Err stop.Memory) old new read m h = tt
 
-pub makes_head : (r : Result Head Stop) (old new : Reader) (read : List Token → Read (Trees → Tree)) {whole : Trees → Tree} → MakesHead r whole → read (left_of old) ≡ Some (whole, left_of new) → GivesHead r old new read
+pub makes_head : (r : Result Head ReadStop) (old new : Reader) (read : List Token → Read (Trees → Tree)) {whole : Trees → Tree} → MakesHead r whole → read (left_of old) ≡ Some (whole, left_of new) → GivesHead r old new read
 makes_head (Ok h) old new read m e = e ∙ ap (λ w. Some (w, left_of new)) (sym m)
 makes_head (Err stop.Unexpected) old new read m e = absurd (cc)
 makes_head (Err stop.Memory) old new read m e = tt
 
-pub puts_item : (r : Result Unit Stop) (old new : Reader) (before : List Expr) (e : Expr) (after : List Expr) → after ≡ before ++ e ∷ [] → GoesTo r old new separator_at → PutsItem r old before e new after
+pub puts_item : (r : Result Unit ReadStop) (old new : Reader) (before : List Expr) (e : Expr) (after : List Expr) → after ≡ before ++ e ∷ [] → GoesTo r old new separator_at → PutsItem r old before e new after
 puts_item (Ok x) old new before e after h g = (rw h (trees_push before e), g)
 puts_item (Err s) old new before e after h g = g
 
@@ -137,11 +137,11 @@ module _ (within : Within) where
   pub head_is : (w : Reserved) (a : List Token) {b d : List Token} {whole : Trees → Tree} {ts : Trees} → has_head w ≡ true → head_at within w a ≡ Some (whole, b) → braced_at within b ≡ Some (ts, d) → control_at within w a ≡ Some (whole ts, d)
   head_is w a {b} {d} {whole} e f g = sym (headed w a e) ∙ ap (λ y. y >>= λ h. braced_at within h.1 >>= λ b. Some (h.0 b.0, b.1)) f ∙ ap (λ y. y >>= λ b. Some (whole b.0, b.1)) g
 
-  pub head_fails : (s : Stop) (w : Reserved) (a : List Token) → has_head w ≡ true → Fails s (head_at within w a) → Fails s (control_at within w a)
+  pub head_fails : (s : ReadStop) (w : Reserved) (a : List Token) → has_head w ≡ true → Fails s (head_at within w a) → Fails s (control_at within w a)
   head_fails stop.Unexpected w a e f = sym (headed w a e) ∙ ap (λ y. y >>= λ h. braced_at within h.1 >>= λ b. Some (h.0 b.0, b.1)) f
   head_fails stop.Memory w a e f = tt
 
-  pub head_block_fails : (s : Stop) (w : Reserved) (a : List Token) {b : List Token} {whole : Trees → Tree} → has_head w ≡ true → head_at within w a ≡ Some (whole, b) → Fails s (braced_at within b) → Fails s (control_at within w a)
+  pub head_block_fails : (s : ReadStop) (w : Reserved) (a : List Token) {b : List Token} {whole : Trees → Tree} → has_head w ≡ true → head_at within w a ≡ Some (whole, b) → Fails s (braced_at within b) → Fails s (control_at within w a)
   head_block_fails stop.Unexpected w a {b} {whole} e f g = sym (headed w a e) ∙ ap (λ y. y >>= λ h. braced_at within h.1 >>= λ b. Some (h.0 b.0, b.1)) f ∙ ap (λ y. y >>= λ b. Some (whole b.0, b.1)) g
   head_block_fails stop.Memory w a e f g = tt
 
@@ -158,13 +158,13 @@ module _ (within : Within) where
   pub method_is : (a : List Token) {b d : List Token} {whole : Trees → MethodTree} {ts : Trees} → method_head_at a ≡ Some (whole, b) → braced_at within b ≡ Some (ts, d) → method_at within a ≡ Some (whole ts, d)
   method_is a {whole = whole} f g = sym (method_headed a) ∙ ap (λ y. y >>= λ h. braced_at within h.1 >>= λ b. Some (h.0 b.0, b.1)) f ∙ ap (λ y. y >>= λ b. Some (whole b.0, b.1)) g
 
-  pub method_head_fails : (s : Stop) (p : Pattern) (a : List Token) {ms : Methods} (b : List Token) → Turns (methods_next within) (methods_at within a) ms b → is_at_word is_method_word b ≡ true → Fails s (method_head_at b) → Fails s (members_at within p a)
+  pub method_head_fails : (s : ReadStop) (p : Pattern) (a : List Token) {ms : Methods} (b : List Token) → Turns (methods_next within) (methods_at within a) ms b → is_at_word is_method_word b ≡ true → Fails s (method_head_at b) → Fails s (members_at within p a)
   method_head_fails stop.Unexpected p a b c e f =
       let k = methods_fail within c e (sym (method_headed b) ∙ ap (λ y. y >>= λ h. braced_at within h.1 >>= λ b. Some (h.0 b.0, b.1)) f) in
       rw k
   method_head_fails stop.Memory p a b c e f = tt
 
-  pub method_block_fails : (s : Stop) (p : Pattern) (a : List Token) {ms : Methods} (b : List Token) {d : List Token} {whole : Trees → MethodTree} → Turns (methods_next within) (methods_at within a) ms b → is_at_word is_method_word b ≡ true
+  pub method_block_fails : (s : ReadStop) (p : Pattern) (a : List Token) {ms : Methods} (b : List Token) {d : List Token} {whole : Trees → MethodTree} → Turns (methods_next within) (methods_at within a) ms b → is_at_word is_method_word b ≡ true
       → method_head_at b ≡ Some (whole, d) → Fails s (braced_at within d) → Fails s (members_at within p a)
   method_block_fails stop.Unexpected p a b {whole = whole} c e f g =
       let k = methods_fail within c e (sym (method_headed b) ∙ ap (λ y. y >>= λ h. braced_at within h.1 >>= λ b. Some (h.0 b.0, b.1)) f ∙ ap (λ y. y >>= λ b. Some (whole b.0, b.1)) g) in
@@ -190,12 +190,12 @@ module _ (within : Within) where
       ap (λ y. y >>= λ p. body_at within p.0 p.1) e ∙ function_headed p b f ∙ ap (λ y. y >>= λ ps. braced_at within ps.1 >>= λ b. Some (function_tree p ps.0 b.0, b.1)) g
       ∙ ap (λ y. y >>= λ b. Some (function_tree p ps b.0, b.1)) h
 
-  pub parameters_fail : (s : Stop) (a b : List Token) {p : Pattern} → pattern_at a ≡ Some (p, b) → is_open bracket.Curly (sign_in b) ≡ false → Fails s (parameters_at b) → Fails s (object_at within a)
+  pub parameters_fail : (s : ReadStop) (a b : List Token) {p : Pattern} → pattern_at a ≡ Some (p, b) → is_open bracket.Curly (sign_in b) ≡ false → Fails s (parameters_at b) → Fails s (object_at within a)
   parameters_fail stop.Unexpected a b {p = p} e f g =
       ap (λ y. y >>= λ p. body_at within p.0 p.1) e ∙ function_headed p b f ∙ ap (λ y. y >>= λ ps. braced_at within ps.1 >>= λ b. Some (function_tree p ps.0 b.0, b.1)) g
   parameters_fail stop.Memory a b e f g = tt
 
-  pub function_fails : (s : Stop) (a b : List Token) {d : List Token} {p : Pattern} {ps : List Pattern} → pattern_at a ≡ Some (p, b) → is_open bracket.Curly (sign_in b) ≡ false
+  pub function_fails : (s : ReadStop) (a b : List Token) {d : List Token} {p : Pattern} {ps : List Pattern} → pattern_at a ≡ Some (p, b) → is_open bracket.Curly (sign_in b) ≡ false
       → parameters_at b ≡ Some (ps, d) → Fails s (braced_at within d) → Fails s (object_at within a)
   function_fails stop.Unexpected a b {p = p} {ps = ps} e f g h =
       ap (λ y. y >>= λ p. body_at within p.0 p.1) e ∙ function_headed p b f ∙ ap (λ y. y >>= λ ps. braced_at within ps.1 >>= λ b. Some (function_tree p ps.0 b.0, b.1)) g
@@ -208,11 +208,11 @@ module _ (within : Within) where
   pub args_open : (k : Bracket) (a b : List Token) {ts : Trees} → is_close k (sign_in a) ≡ false → items_at within a ≡ Some (ts, b) → is_close k (sign_in b) ≡ false → args_at within k a ≡ None
   args_open k a b e f g = rw (e, f, g)
 
-  pub first_arg_fails : (s : Stop) (k : Bracket) (a : List Token) → is_close k (sign_in a) ≡ false → Fails s (within.expression a) → Fails s (args_at within k a)
+  pub first_arg_fails : (s : ReadStop) (k : Bracket) (a : List Token) → is_close k (sign_in a) ≡ false → Fails s (within.expression a) → Fails s (args_at within k a)
   first_arg_fails stop.Unexpected k a e f = rw (e, f)
   first_arg_fails stop.Memory k a e f = tt
 
-  pub arg_fails : (s : Stop) (k : Bracket) (a : List Token) {ts : Trees} {b : List Token} (d : List Token) → is_close k (sign_in a) ≡ false → Turns (commas_next snoc within.expression) (items_at within a) ts b → is_comma (sign_in b) ≡ true → d ≡ rest_of b
+  pub arg_fails : (s : ReadStop) (k : Bracket) (a : List Token) {ts : Trees} {b : List Token} (d : List Token) → is_close k (sign_in a) ≡ false → Turns (commas_next snoc within.expression) (items_at within a) ts b → is_comma (sign_in b) ≡ true → d ≡ rest_of b
       → Fails s (within.expression d) → Fails s (args_at within k a)
   arg_fails stop.Unexpected k a d e c f g h =
       let i = commas_fail snoc within.expression d c f g h in
@@ -223,7 +223,7 @@ module _ (within : Within) where
   given_is None old between e f g = rw (e, f, g)
   given_is (Some x) old between e f g = rw (e, f, g)
 
-  pub value_fails : (s : Stop) (g : Option Target) (old between : Reader) → is_at_word is_return_word (left_of old) ≡ false → GivesPlace (Ok g) old between target_at → Fails s (within.expression (left_of between)) → Fails s (expr_at within (left_of old))
+  pub value_fails : (s : ReadStop) (g : Option Target) (old between : Reader) → is_at_word is_return_word (left_of old) ≡ false → GivesPlace (Ok g) old between target_at → Fails s (within.expression (left_of between)) → Fails s (expr_at within (left_of old))
   value_fails stop.Unexpected None old between e f g = rw (e, f, g)
   value_fails stop.Unexpected (Some x) old between e f g = rw (e, f, g)
   value_fails stop.Memory g old between e f h = tt
@@ -232,12 +232,12 @@ module _ (within : Within) where
   unary_is None a b e f g h = rw (← e, ← f, g, h)
   unary_is (Some o) a b e f g h = rw (← e, ← f, g, h)
 
-  pub primary_fails : (s : Stop) (o : Option Prefix) (a b : List Token) → o ≡ front prefix_operator a → b ≡ behind o a → Fails s (primary_at within b) → Fails s (unary_at within a)
+  pub primary_fails : (s : ReadStop) (o : Option Prefix) (a b : List Token) → o ≡ front prefix_operator a → b ≡ behind o a → Fails s (primary_at within b) → Fails s (unary_at within a)
   primary_fails stop.Unexpected None a b e f g = rw (← e, ← f, g)
   primary_fails stop.Unexpected (Some o) a b e f g = rw (← e, ← f, g)
   primary_fails stop.Memory o a b e f g = tt
 
-  pub postfix_fails : (s : Stop) (o : Option Prefix) (a b : List Token) {c : List Token} {t : Tree} → o ≡ front prefix_operator a → b ≡ behind o a → primary_at within b ≡ Some (t, c) → Fails s (postfix_from within t c) → Fails s (unary_at within a)
+  pub postfix_fails : (s : ReadStop) (o : Option Prefix) (a b : List Token) {c : List Token} {t : Tree} → o ≡ front prefix_operator a → b ≡ behind o a → primary_at within b ≡ Some (t, c) → Fails s (postfix_from within t c) → Fails s (unary_at within a)
   postfix_fails stop.Unexpected None a b e f g h = rw (← e, ← f, g, h)
   postfix_fails stop.Unexpected (Some o) a b e f g h = rw (← e, ← f, g, h)
   postfix_fails stop.Memory o a b e f g h = tt

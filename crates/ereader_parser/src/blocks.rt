@@ -11,7 +11,7 @@ use crate::made;
 use crate::reader::Reader;
 use ereader_forms::words::RefWord;
 use ereader_nodes::nodes;
-use ereader_signs::stop::Stop;
+use ereader_signs::stop::ReadStop;
 use etoken::breaks::Bracket;
 use etoken::token::Reserved;
 use kernele::tree::{Expr, Pattern};
@@ -28,19 +28,19 @@ impl<'a> Reader<'a> {
     }
 
     /// The semicolons behind an item, or the block's end.
-    fn separator(&mut self) -> Result<(), Stop>
+    fn separator(&mut self) -> Result<(), ReadStop>
         ensures gives { GoesTo result self.old self.new reading.separator_at }
         ensures shorter { OnOk result (IsNoLonger self.old self.new) }
     {
         if !self.at_block_end() && !self.at_semicolon() {
-            return Err(Stop::Unexpected);
+            return Err(ReadStop::Unexpected);
         }
         self.skip_semicolons();
         Ok(())
     }
 
     /// Puts an item of a block behind those before it, and goes past what parts it from the next.
-    fn put_item(&mut self, items: &mut Vec<Expr>, item: Expr) -> Result<(), Stop>
+    fn put_item(&mut self, items: &mut Vec<Expr>, item: Expr) -> Result<(), ReadStop>
         ensures { PutsItem result self.old items.old.items item self.new items.new.items }
     {
         items.push(item)?;
@@ -53,7 +53,7 @@ impl<'a> Reader<'a> {
     ///
     /// `Unexpected` before the first token that can't follow those before it; `Memory` where memory runs out.
     #[cycle(read)]
-    pub fn block(&mut self, left: usize) -> Result<Vec<Expr>, Stop>
+    pub fn block(&mut self, left: usize) -> Result<Vec<Expr>, ReadStop>
         ensures gives { GivesMany result self.old self.new (reading.block_at (within_at left)) }
         ensures shorter { OnOk result (IsNoLonger self.old self.new) }
     {
@@ -68,7 +68,7 @@ impl<'a> Reader<'a> {
 
     /// A block in its braces.
     #[cycle(read)]
-    pub(crate) fn braced(&mut self, left: usize) -> Result<Vec<Expr>, Stop>
+    pub(crate) fn braced(&mut self, left: usize) -> Result<Vec<Expr>, ReadStop>
         ensures { GivesMany result self.old self.new (reading.braced_at (within_at left)) }
     {
         self.open(Bracket::Curly)?;
@@ -78,7 +78,7 @@ impl<'a> Reader<'a> {
     }
 
     /// The bracket behind a condition.
-    fn closed_condition(&mut self, condition: Expr) -> Result<Arc<Expr>, Stop>
+    fn closed_condition(&mut self, condition: Expr) -> Result<Arc<Expr>, ReadStop>
         ensures { GivesShared result self.old self.new (λ a. reading.past (reading.is_close Bracket.Round) (tree_of condition, a)) }
     {
         let condition = Arc::new(self.alloc, condition)?;
@@ -88,7 +88,7 @@ impl<'a> Reader<'a> {
 
     /// An expression in round brackets.
     #[cycle(read)]
-    fn condition(&mut self, left: usize) -> Result<Arc<Expr>, Stop>
+    fn condition(&mut self, left: usize) -> Result<Arc<Expr>, ReadStop>
         ensures { GivesShared result self.old self.new (reading.condition_at (within_at left)) }
     {
         self.open(Bracket::Round)?;
@@ -98,7 +98,7 @@ impl<'a> Reader<'a> {
 
     /// What begins with the word in front and is no literal, if an expression may.
     #[cycle(read)]
-    pub(crate) fn control(&mut self, left: usize, word: Reserved) -> Result<Expr, Stop>
+    pub(crate) fn control(&mut self, left: usize, word: Reserved) -> Result<Expr, ReadStop>
         ensures { Gives result self.old self.new (λ a. reading.control_at (within_at left) word (rest_of a)) }
     {
         match word {
@@ -134,7 +134,7 @@ impl<'a> Reader<'a> {
     /// What begins with the word in front, up to its last block, if that word has one.
     #[cycle(read)]
     #[inline(never)]
-    fn head(&mut self, left: usize, word: Reserved) -> Result<Head, Stop>
+    fn head(&mut self, left: usize, word: Reserved) -> Result<Head, ReadStop>
         ensures { GivesHead result self.old self.new (λ a. head_at (within_at left) word (rest_of a)) }
     {
         match word {
@@ -157,28 +157,28 @@ impl<'a> Reader<'a> {
                 self.skip();
                 Ok(Head::Escape(self.name()?))
             }
-            _ => Err(Stop::Unexpected),
+            _ => Err(ReadStop::Unexpected),
         }
     }
 
     /// A pattern and the `in` behind it.
-    fn each(&mut self) -> Result<Pattern, Stop>
+    fn each(&mut self) -> Result<Pattern, ReadStop>
         ensures { GivesPlain result self.old self.new reading.each_at }
     {
         let pattern = self.pattern()?;
         if !self.at_in() {
-            return Err(Stop::Unexpected);
+            return Err(ReadStop::Unexpected);
         }
         self.skip();
         Ok(pattern)
     }
 
     /// The `catch` and the pattern behind the block of a `try`.
-    fn caught(&mut self, body: Vec<Expr>) -> Result<Head, Stop>
+    fn caught(&mut self, body: Vec<Expr>) -> Result<Head, ReadStop>
         ensures { GivesHead result self.old self.new (λ a. caught_at (trees_of body.items, a)) }
     {
         if !self.at_catch() {
-            return Err(Stop::Unexpected);
+            return Err(ReadStop::Unexpected);
         }
         self.skip();
         Ok(Head::Try(body, self.pattern()?))
@@ -187,7 +187,7 @@ impl<'a> Reader<'a> {
     /// What stands behind `when`.
     #[cycle(read)]
     #[inline(never)]
-    fn when(&mut self, left: usize) -> Result<Expr, Stop>
+    fn when(&mut self, left: usize) -> Result<Expr, ReadStop>
         ensures { Gives result self.old self.new (reading.when_at (within_at left)) }
     {
         let value = self.condition(left)?;
@@ -198,7 +198,12 @@ impl<'a> Reader<'a> {
 
     /// The `catch` behind the block of a `when`, if there is one.
     #[cycle(read)]
-    fn when_from(&mut self, left: usize, value: Arc<Expr>, body: Vec<Expr>) -> Result<Expr, Stop>
+    fn when_from(
+        &mut self,
+        left: usize,
+        value: Arc<Expr>,
+        body: Vec<Expr>,
+    ) -> Result<Expr, ReadStop>
         ensures { Gives result self.old self.new (reading.when_from (within_at left) (tree_of value.value) (trees_of body.items)) }
     {
         if !self.at_catch() {
@@ -211,7 +216,7 @@ impl<'a> Reader<'a> {
     }
 
     /// Round brackets with nothing in them, behind `Ref.promise`.
-    fn promise(&mut self) -> Result<Expr, Stop>
+    fn promise(&mut self) -> Result<Expr, ReadStop>
         ensures { Gives result self.old self.new reading.promise_at }
     {
         self.open(Bracket::Round)?;
@@ -222,7 +227,7 @@ impl<'a> Reader<'a> {
     /// What stands behind `Ref`.
     #[cycle(read)]
     #[inline(never)]
-    fn reference(&mut self, left: usize) -> Result<Expr, Stop>
+    fn reference(&mut self, left: usize) -> Result<Expr, ReadStop>
         ensures { Gives result self.old self.new (reading.ref_at (within_at left)) }
     {
         match self.ref_word()? {
@@ -240,7 +245,7 @@ impl<'a> Reader<'a> {
 
     /// What stands behind `if`.
     #[cycle(read)]
-    fn conditional(&mut self, left: usize) -> Result<Expr, Stop>
+    fn conditional(&mut self, left: usize) -> Result<Expr, ReadStop>
         ensures { Gives result self.old self.new (reading.if_at (within_at left)) }
     {
         let condition = self.condition(left)?;
@@ -251,7 +256,7 @@ impl<'a> Reader<'a> {
 
     /// The second block, if there is one: an `if` behind `else` is all of it.
     #[cycle(read)]
-    fn second(&mut self, left: usize) -> Result<Vec<Expr>, Stop>
+    fn second(&mut self, left: usize) -> Result<Vec<Expr>, ReadStop>
         ensures { GivesMany result self.old self.new (reading.else_at (within_at left)) }
     {
         if !self.at_else() {
@@ -262,7 +267,7 @@ impl<'a> Reader<'a> {
             return self.braced(left);
         }
         if left == 0 {
-            return Err(Stop::Unexpected);
+            return Err(ReadStop::Unexpected);
         }
         self.skip();
         let inner = self.conditional(left - 1)?;

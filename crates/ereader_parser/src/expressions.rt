@@ -12,8 +12,8 @@ use crate::level::{joins_two, tighter};
 use crate::made;
 use crate::reader::Reader;
 use ereader_forms::operators;
-use ereader_signs::operator::{Level, Link};
-use ereader_signs::stop::Stop;
+use ereader_signs::operator::{CallSign, Level};
+use ereader_signs::stop::ReadStop;
 use etoken::breaks::Bracket;
 use ids::text::Text;
 use kernele::tree::Expr;
@@ -21,7 +21,7 @@ use std::sync::Arc;
 
 impl<'a> Reader<'a> {
     /// The verb of a call or a send, up to its arguments.
-    fn verb(&mut self, link: Link) -> Result<Text, Stop>
+    fn verb(&mut self, link: CallSign) -> Result<Text, ReadStop>
         ensures gives { GivesPlain result self.old self.new (reading.verb_at link) }
         ensures shorter { OnOk result (IsNoLonger self.old self.new) }
     {
@@ -33,7 +33,7 @@ impl<'a> Reader<'a> {
     }
 
     /// The verb of a send, up to its arguments: `run`, where no name stands for it.
-    fn send_verb(&mut self) -> Result<Text, Stop>
+    fn send_verb(&mut self) -> Result<Text, ReadStop>
         ensures gives { GivesPlain result self.old self.new reading.send_verb_at }
         ensures shorter { OnOk result (IsNoLonger self.old self.new) }
     {
@@ -46,7 +46,7 @@ impl<'a> Reader<'a> {
     }
 
     /// The verb of a call, up to its arguments.
-    fn call_verb(&mut self, link: Link) -> Result<Text, Stop>
+    fn call_verb(&mut self, link: CallSign) -> Result<Text, ReadStop>
         ensures gives { GivesPlain result self.old self.new (reading.call_verb_at link) }
         ensures shorter { OnOk result (IsNoLonger self.old self.new) }
     {
@@ -57,13 +57,13 @@ impl<'a> Reader<'a> {
     }
 
     /// A verb and the bracket behind it.
-    pub(crate) fn method_verb(&mut self) -> Result<Text, Stop>
+    pub(crate) fn method_verb(&mut self) -> Result<Text, ReadStop>
         ensures gives { GivesPlain result self.old self.new reading.method_verb_at }
         ensures shorter { OnOk result (IsNoLonger self.old self.new) }
     {
         let verb = self.name()?;
         if !self.at_open(Bracket::Round) {
-            return Err(Stop::Unexpected);
+            return Err(ReadStop::Unexpected);
         }
         self.skip();
         Ok(verb)
@@ -72,18 +72,18 @@ impl<'a> Reader<'a> {
     /// An expression that gives its value to no name, where parts lie within one another less than `left` deep. Each
     /// such part is behind at least one token of the one around it, so the number of tokens is always enough.
     #[cycle(read)]
-    pub(crate) fn expression(&mut self, left: usize) -> Result<Expr, Stop>
+    pub(crate) fn expression(&mut self, left: usize) -> Result<Expr, ReadStop>
         ensures { Gives result self.old self.new (within_at left).expression }
     {
         if left == 0 {
-            return Err(Stop::Unexpected);
+            return Err(ReadStop::Unexpected);
         }
         self.operands(left - 1, Level::Disjunction)
     }
 
     /// Operands and the operators of a level between them.
     #[cycle(read)]
-    fn operands(&mut self, left: usize, level: Level) -> Result<Expr, Stop>
+    fn operands(&mut self, left: usize, level: Level) -> Result<Expr, ReadStop>
         ensures { Gives result self.old self.new (level_at level (within_at left)) }
     {
         let prefix = self.prefix();
@@ -96,7 +96,7 @@ impl<'a> Reader<'a> {
     /// The same behind the first operand: what binds more tightly goes first.
     #[cycle(read)]
     #[inline(never)]
-    fn operands_from(&mut self, left: usize, level: Level, first: Expr) -> Result<Expr, Stop>
+    fn operands_from(&mut self, left: usize, level: Level, first: Expr) -> Result<Expr, ReadStop>
         ensures { Gives result self.old self.new (level_from level (within_at left) (tree_of first)) }
     {
         let Some(tighter) = tighter(level) else {
@@ -118,7 +118,7 @@ impl<'a> Reader<'a> {
         level: Level,
         tighter: Level,
         first: Expr,
-    ) -> Result<Expr, Stop>
+    ) -> Result<Expr, ReadStop>
         ensures { Gives result self.old self.new (reading.operands_from (operator_of level) (level_at tighter (within_at left)) (tree_of first)) }
     {
         let mut joined = first;
@@ -133,7 +133,7 @@ impl<'a> Reader<'a> {
 
     #[cycle(read)]
     #[inline(never)]
-    fn comparison_from(&mut self, left: usize, first: Expr) -> Result<Expr, Stop>
+    fn comparison_from(&mut self, left: usize, first: Expr) -> Result<Expr, ReadStop>
         ensures { Gives result self.old self.new (reading.comparison_from (within_at left) (tree_of first)) }
     {
         let Some(operator) = self.operator(Level::Comparison) else {
@@ -147,7 +147,7 @@ impl<'a> Reader<'a> {
 
     #[cycle(read)]
     #[inline(never)]
-    fn postfix_from(&mut self, left: usize, first: Expr) -> Result<Expr, Stop>
+    fn postfix_from(&mut self, left: usize, first: Expr) -> Result<Expr, ReadStop>
         ensures { Gives result self.old self.new (reading.postfix_from (within_at left) (tree_of first)) }
     {
         let mut postfix = first;

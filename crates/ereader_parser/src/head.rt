@@ -6,7 +6,7 @@ ghost use Rattle.ereader_parser.specs.View.{Makes, MakesHead, PutsMethod};
 
 use ereader_forms::methods;
 use ereader_nodes::nodes;
-use ereader_signs::stop::Stop;
+use ereader_signs::stop::ReadStop;
 use ids::text::Text;
 use kernele::tree::{Expr, Method, Pattern};
 use std::alloc::Global;
@@ -27,7 +27,7 @@ pub enum Head {
 
 impl Head {
     /// That of `for`.
-    pub(crate) fn each(alloc: Global, pattern: Pattern, list: Expr) -> Result<Head, Stop>
+    pub(crate) fn each(alloc: Global, pattern: Pattern, list: Expr) -> Result<Head, ReadStop>
         ensures { MakesHead result (for_tree pattern (tree_of list)) }
     {
         let list = Arc::new(alloc, list)?;
@@ -35,7 +35,7 @@ impl Head {
     }
 
     /// The whole, with its last block.
-    pub(crate) fn whole(self, alloc: Global, body: Vec<Expr>) -> Result<Expr, Stop>
+    pub(crate) fn whole(self, alloc: Global, body: Vec<Expr>) -> Result<Expr, ReadStop>
         ensures { Makes result (whole_of self (trees_of body.items)) }
     {
         let whole = match self {
@@ -64,7 +64,7 @@ impl MethodHead {
         alloc: Global,
         body: Vec<Expr>,
         methods: &mut Vec<Method>,
-    ) -> Result<(), Stop>
+    ) -> Result<(), ReadStop>
         ensures { PutsMethod result methods.old.items (whole_method self (trees_of body.items)) methods.new.items }
     {
         let body = methods::block_of(alloc, self.returns, body)?;

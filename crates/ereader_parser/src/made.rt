@@ -10,26 +10,26 @@ use ereader_forms::{methods, operators};
 use ereader_nodes::nodes;
 use ereader_nodes::target::Target;
 use ereader_signs::operator::{Operator, Prefix};
-use ereader_signs::stop::Stop;
+use ereader_signs::stop::ReadStop;
 use kernele::tree::{Expr, Method, Pattern};
 use std::alloc::Global;
 use std::sync::Arc;
 
 /// A vector of one expression.
-pub(crate) fn one(alloc: Global, item: Expr) -> Result<Vec<Expr>, Stop>
+pub(crate) fn one(alloc: Global, item: Expr) -> Result<Vec<Expr>, ReadStop>
     ensures { MakesMany result (alone (tree_of item)) }
 {
     Ok(nodes::one(alloc, item)?)
 }
 
-pub(crate) fn list(alloc: Global, items: Vec<Expr>) -> Result<Expr, Stop>
+pub(crate) fn list(alloc: Global, items: Vec<Expr>) -> Result<Expr, ReadStop>
     ensures { Makes result (list_tree (trees_of items.items)) }
 {
     Ok(nodes::list(alloc, items)?)
 }
 
 /// A hidden block.
-pub(crate) fn hidden(alloc: Global, body: Vec<Expr>) -> Result<Expr, Stop>
+pub(crate) fn hidden(alloc: Global, body: Vec<Expr>) -> Result<Expr, ReadStop>
     ensures { Makes result (hide_tree (trees_of body.items)) }
 {
     Ok(nodes::hide(alloc, body)?)
@@ -41,14 +41,14 @@ pub(crate) fn choice(
     condition: Arc<Expr>,
     first: Vec<Expr>,
     second: Vec<Expr>,
-) -> Result<Expr, Stop>
+) -> Result<Expr, ReadStop>
     ensures { Makes result (if_tree (tree_of condition.value) (trees_of first.items) (trees_of second.items)) }
 {
     Ok(nodes::choose(alloc, condition, first, second)?)
 }
 
 /// A value, and the block that runs when it is known.
-pub(crate) fn when(alloc: Global, value: Arc<Expr>, body: Vec<Expr>) -> Result<Expr, Stop>
+pub(crate) fn when(alloc: Global, value: Arc<Expr>, body: Vec<Expr>) -> Result<Expr, ReadStop>
     ensures { Makes result (when_tree (tree_of value.value) (trees_of body.items)) }
 {
     Ok(nodes::when(alloc, value, body)?)
@@ -61,21 +61,21 @@ pub(crate) fn when_catch(
     body: Vec<Expr>,
     pattern: Pattern,
     handler: Vec<Expr>,
-) -> Result<Expr, Stop>
+) -> Result<Expr, ReadStop>
     ensures { Makes result (when_catch_tree (tree_of value.value) (trees_of body.items) pattern (trees_of handler.items)) }
 {
     Ok(nodes::when_catch(alloc, value, body, pattern, handler)?)
 }
 
 /// What `return` stands for.
-pub(crate) fn returned(alloc: Global, value: Expr) -> Result<Expr, Stop>
+pub(crate) fn returned(alloc: Global, value: Expr) -> Result<Expr, ReadStop>
     ensures { Makes result (return_tree (tree_of value)) }
 {
     Ok(methods::returned(alloc, value)?)
 }
 
 /// A value, and what it is given to, if it is given to anything.
-pub(crate) fn given(alloc: Global, target: Option<Target>, value: Expr) -> Result<Expr, Stop>
+pub(crate) fn given(alloc: Global, target: Option<Target>, value: Expr) -> Result<Expr, ReadStop>
     ensures { Makes result (given_to target (tree_of value)) }
 {
     match target {
@@ -85,7 +85,11 @@ pub(crate) fn given(alloc: Global, target: Option<Target>, value: Expr) -> Resul
 }
 
 /// An operand, and the operator before it, if there is one.
-pub(crate) fn prefixed(alloc: Global, prefix: Option<Prefix>, operand: Expr) -> Result<Expr, Stop>
+pub(crate) fn prefixed(
+    alloc: Global,
+    prefix: Option<Prefix>,
+    operand: Expr,
+) -> Result<Expr, ReadStop>
     ensures { Makes result (prefixed_tree prefix (tree_of operand)) }
 {
     match prefix {
@@ -100,7 +104,7 @@ pub(crate) fn joined(
     left: Arc<Expr>,
     operator: Operator,
     right: Expr,
-) -> Result<Expr, Stop>
+) -> Result<Expr, ReadStop>
     ensures { Makes result (joined_trees operator (tree_of left.value) (tree_of right)) }
 {
     Ok(operators::join(alloc, left, operator, right)?)
@@ -112,14 +116,18 @@ pub(crate) fn function(
     pattern: Pattern,
     parameters: Vec<Pattern>,
     body: Vec<Expr>,
-) -> Result<Expr, Stop>
+) -> Result<Expr, ReadStop>
     ensures { Makes result (function_tree pattern parameters.items (trees_of body.items)) }
 {
     Ok(methods::function(alloc, pattern, parameters, body)?)
 }
 
 /// An object and what it is bound to.
-pub(crate) fn object(alloc: Global, pattern: Pattern, methods: Vec<Method>) -> Result<Expr, Stop>
+pub(crate) fn object(
+    alloc: Global,
+    pattern: Pattern,
+    methods: Vec<Method>,
+) -> Result<Expr, ReadStop>
     ensures { Makes result (object_tree pattern (methods_of methods.items)) }
 {
     Ok(nodes::object(alloc, pattern, methods)?)

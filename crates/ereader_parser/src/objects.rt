@@ -7,13 +7,13 @@ ghost use Rattle.ereader_parser.specs.View.{Gives, GivesMethodHead, GivesPattern
 use crate::head::MethodHead;
 use crate::made;
 use crate::reader::Reader;
-use ereader_signs::stop::Stop;
+use ereader_signs::stop::ReadStop;
 use etoken::breaks::Bracket;
 use kernele::tree::{Expr, Pattern};
 
 impl<'a> Reader<'a> {
     /// Parameters in their brackets.
-    fn parameters(&mut self) -> Result<Vec<Pattern>, Stop>
+    fn parameters(&mut self) -> Result<Vec<Pattern>, ReadStop>
         ensures { GivesPatterns result self.old self.new parameters_at }
     {
         self.open(Bracket::Round)?;
@@ -23,7 +23,7 @@ impl<'a> Reader<'a> {
     /// What stands behind the `def` of an object: one with methods, or one with a block and its parameters.
     #[cycle(read)]
     #[inline(never)]
-    pub(crate) fn object(&mut self, left: usize) -> Result<Expr, Stop>
+    pub(crate) fn object(&mut self, left: usize) -> Result<Expr, ReadStop>
         ensures { Gives result self.old self.new (reading.object_at (within_at left)) }
     {
         let pattern = self.pattern()?;
@@ -38,7 +38,7 @@ impl<'a> Reader<'a> {
 
     /// An object that the pattern is bound to, behind its opening brace.
     #[cycle(read)]
-    fn members(&mut self, left: usize, pattern: Pattern) -> Result<Expr, Stop>
+    fn members(&mut self, left: usize, pattern: Pattern) -> Result<Expr, ReadStop>
         ensures { Gives result self.old self.new (reading.members_at (within_at left) pattern) }
     {
         let mut methods = Vec::new(self.alloc);
@@ -52,7 +52,7 @@ impl<'a> Reader<'a> {
     }
 
     /// What stands before the block of a method, where its first word is in front.
-    fn method_head(&mut self) -> Result<MethodHead, Stop>
+    fn method_head(&mut self) -> Result<MethodHead, ReadStop>
         ensures { GivesMethodHead result self.old self.new method_head_at }
     {
         let returns = self.at_to();

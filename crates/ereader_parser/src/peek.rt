@@ -8,7 +8,7 @@ ghost use Rattle.ereader_parser.specs.Heads.{behind};
 ghost use Rattle.ereader_parser.specs.View.{left_of, word_in};
 
 use crate::reader::Reader;
-use ereader_signs::operator::{Level, Link, Operator, Prefix};
+use ereader_signs::operator::{CallSign, Level, Operator, Prefix};
 use etoken::breaks::Bracket;
 use etoken::token::{Placed, Reserved, Sign, Token};
 
@@ -133,10 +133,10 @@ impl<'a> Reader<'a> {
     }
 
     /// What makes a call of what was read, if that goes on.
-    pub(crate) fn link(&self) -> Option<Link>
+    pub(crate) fn link(&self) -> Option<CallSign>
         ensures { result ≡ front link_of (left_of self.now) }
     {
-        Link::of(self.sign()?)
+        CallSign::of(self.sign()?)
     }
 
     /// Whether a definition of what a value is given to is in front, and not one of an object.

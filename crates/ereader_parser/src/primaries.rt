@@ -8,7 +8,7 @@ use crate::made;
 use crate::reader::Reader;
 use ereader_forms::words;
 use ereader_nodes::nodes;
-use ereader_signs::stop::Stop;
+use ereader_signs::stop::ReadStop;
 use etoken::breaks::Bracket;
 use etoken::token::{Sign, Token};
 use kernele::tree::Expr;
@@ -16,7 +16,7 @@ use kernele::tree::Expr;
 impl<'a> Reader<'a> {
     /// Arguments with commas between them, and the closing bracket.
     #[cycle(read)]
-    pub(crate) fn args(&mut self, left: usize, bracket: Bracket) -> Result<Vec<Expr>, Stop>
+    pub(crate) fn args(&mut self, left: usize, bracket: Bracket) -> Result<Vec<Expr>, ReadStop>
         ensures { GivesMany result self.old self.new (reading.args_at (within_at left) bracket) }
     {
         if self.at_close(bracket) {
@@ -35,11 +35,11 @@ impl<'a> Reader<'a> {
     }
 
     #[cycle(read)]
-    pub(crate) fn primary(&mut self, left: usize) -> Result<Expr, Stop>
+    pub(crate) fn primary(&mut self, left: usize) -> Result<Expr, ReadStop>
         ensures { Gives result self.old self.new (reading.primary_at (within_at left)) }
     {
         let Some((first, rest)) = self.rest.split_first() else {
-            return Err(Stop::Unexpected);
+            return Err(ReadStop::Unexpected);
         };
         match &first.token {
             Token::Int(number) => {
@@ -69,7 +69,7 @@ impl<'a> Reader<'a> {
 
     /// What begins with the sign in front, if an expression may.
     #[cycle(read)]
-    fn bracketed(&mut self, left: usize, sign: Sign) -> Result<Expr, Stop>
+    fn bracketed(&mut self, left: usize, sign: Sign) -> Result<Expr, ReadStop>
         ensures { Gives result self.old self.new (λ a. reading.bracket_at (within_at left) sign (rest_of a)) }
     {
         match sign {
@@ -89,16 +89,16 @@ impl<'a> Reader<'a> {
                 self.close(Bracket::Curly)?;
                 made::hidden(self.alloc, body)
             }
-            _ => Err(Stop::Unexpected),
+            _ => Err(ReadStop::Unexpected),
         }
     }
 
     /// The bracket behind an expression in round brackets.
-    fn closed(&mut self, inner: Expr) -> Result<Expr, Stop>
+    fn closed(&mut self, inner: Expr) -> Result<Expr, ReadStop>
         ensures { Gives result self.old self.new (λ a. reading.past (reading.is_close Bracket.Round) (tree_of inner, a)) }
     {
         if !self.at_close(Bracket::Round) {
-            return Err(Stop::Unexpected);
+            return Err(ReadStop::Unexpected);
         }
         self.skip();
         Ok(inner)
@@ -106,7 +106,7 @@ impl<'a> Reader<'a> {
 
     /// An expression, and what it is given to, if it is given to anything.
     #[cycle(read)]
-    pub(crate) fn expr(&mut self, left: usize) -> Result<Expr, Stop>
+    pub(crate) fn expr(&mut self, left: usize) -> Result<Expr, ReadStop>
         ensures { Gives result self.old self.new (reading.expr_at (within_at left)) }
     {
         if self.at_return() {
@@ -121,7 +121,7 @@ impl<'a> Reader<'a> {
     /// What stands behind `return`.
     #[cycle(read)]
     #[inline(never)]
-    fn returned(&mut self, left: usize) -> Result<Expr, Stop>
+    fn returned(&mut self, left: usize) -> Result<Expr, ReadStop>
         ensures { Gives result self.old self.new (reading.return_at (within_at left)) }
     {
         if !self.at_operand() {

@@ -6,7 +6,7 @@ ghost use Rattle.ereader_parser.specs.View.{left_of, Advances, IsNoLonger, Gives
 
 use ereader_forms::words::RefWord;
 use ereader_nodes::target::Target;
-use ereader_signs::stop::Stop;
+use ereader_signs::stop::ReadStop;
 use etoken::breaks::Bracket;
 use etoken::token::{Placed, Sign, Token};
 use ids::text::Text;
@@ -32,45 +32,45 @@ impl<'a> Reader<'a> {
     }
 
     /// Goes past an opening bracket.
-    pub(crate) fn open(&mut self, bracket: Bracket) -> Result<(), Stop>
+    pub(crate) fn open(&mut self, bracket: Bracket) -> Result<(), ReadStop>
         ensures { GoesPast result self.old self.new (reading.is_open bracket) }
     {
         if !self.at_open(bracket) {
-            return Err(Stop::Unexpected);
+            return Err(ReadStop::Unexpected);
         }
         self.skip();
         Ok(())
     }
 
     /// Goes past a closing bracket.
-    pub(crate) fn close(&mut self, bracket: Bracket) -> Result<(), Stop>
+    pub(crate) fn close(&mut self, bracket: Bracket) -> Result<(), ReadStop>
         ensures { GoesPast result self.old self.new (reading.is_close bracket) }
     {
         if !self.at_close(bracket) {
-            return Err(Stop::Unexpected);
+            return Err(ReadStop::Unexpected);
         }
         self.skip();
         Ok(())
     }
 
     /// Goes past the `->` of a `when`.
-    pub(crate) fn arrow(&mut self) -> Result<(), Stop>
+    pub(crate) fn arrow(&mut self) -> Result<(), ReadStop>
         ensures { GoesPast result self.old self.new reading.is_arrow }
     {
         if !self.at_arrow() {
-            return Err(Stop::Unexpected);
+            return Err(ReadStop::Unexpected);
         }
         self.skip();
         Ok(())
     }
 
     /// A name, such as a verb.
-    pub(crate) fn name(&mut self) -> Result<Text, Stop>
+    pub(crate) fn name(&mut self) -> Result<Text, ReadStop>
         ensures gives { GivesPlain result self.old self.new reading.name_at }
         ensures shorter { OnOk result (Advances self.old self.new) }
     {
         let Some((first, rest)) = self.rest.split_first() else {
-            return Err(Stop::Unexpected);
+            return Err(ReadStop::Unexpected);
         };
         match &first.token {
             Token::Name(name) => {
@@ -78,45 +78,45 @@ impl<'a> Reader<'a> {
                 self.rest = rest;
                 Ok(name)
             }
-            _ => Err(Stop::Unexpected),
+            _ => Err(ReadStop::Unexpected),
         }
     }
 
     /// A name with a meaning of its own behind `Ref.`.
-    fn ref_name(&mut self) -> Result<RefWord, Stop>
+    fn ref_name(&mut self) -> Result<RefWord, ReadStop>
         ensures { GivesPlain result self.old self.new reading.ref_name_at }
     {
         let Some((first, rest)) = self.rest.split_first() else {
-            return Err(Stop::Unexpected);
+            return Err(ReadStop::Unexpected);
         };
         let Token::Name(name) = &first.token else {
-            return Err(Stop::Unexpected);
+            return Err(ReadStop::Unexpected);
         };
         let Some(word) = RefWord::of(name.as_str()) else {
-            return Err(Stop::Unexpected);
+            return Err(ReadStop::Unexpected);
         };
         self.rest = rest;
         Ok(word)
     }
 
     /// The `.` behind `Ref`, and such a name.
-    pub(crate) fn ref_word(&mut self) -> Result<RefWord, Stop>
+    pub(crate) fn ref_word(&mut self) -> Result<RefWord, ReadStop>
         ensures { GivesPlain result self.old self.new reading.ref_word_at }
     {
         if !self.at_dot() {
-            return Err(Stop::Unexpected);
+            return Err(ReadStop::Unexpected);
         }
         self.skip();
         self.ref_name()
     }
 
     /// What a definition binds.
-    pub(crate) fn pattern(&mut self) -> Result<Pattern, Stop>
+    pub(crate) fn pattern(&mut self) -> Result<Pattern, ReadStop>
         ensures gives { GivesPlain result self.old self.new reading.pattern_at }
         ensures shorter { OnOk result (Advances self.old self.new) }
     {
         let Some((first, rest)) = self.rest.split_first() else {
-            return Err(Stop::Unexpected);
+            return Err(ReadStop::Unexpected);
         };
         match &first.token {
             Token::Name(name) => {
@@ -128,12 +128,12 @@ impl<'a> Reader<'a> {
                 self.rest = rest;
                 Ok(Pattern::Ignore)
             }
-            _ => Err(Stop::Unexpected),
+            _ => Err(ReadStop::Unexpected),
         }
     }
 
     /// One pattern or more, with commas between them.
-    fn patterns(&mut self) -> Result<Vec<Pattern>, Stop>
+    fn patterns(&mut self) -> Result<Vec<Pattern>, ReadStop>
         ensures gives { GivesPatterns result self.old self.new reading.patterns_at }
         ensures shorter { OnOk result (Advances self.old self.new) }
     {
@@ -148,7 +148,7 @@ impl<'a> Reader<'a> {
     }
 
     /// A list of patterns, behind its opening bracket.
-    pub(crate) fn pattern_list(&mut self, bracket: Bracket) -> Result<Vec<Pattern>, Stop>
+    pub(crate) fn pattern_list(&mut self, bracket: Bracket) -> Result<Vec<Pattern>, ReadStop>
         ensures gives { GivesPatterns result self.old self.new (reading.pattern_list_at bracket) }
         ensures shorter { OnOk result (Advances self.old self.new) }
     {
@@ -158,53 +158,53 @@ impl<'a> Reader<'a> {
         }
         let patterns = self.patterns()?;
         if !self.at_close(bracket) {
-            return Err(Stop::Unexpected);
+            return Err(ReadStop::Unexpected);
         }
         self.skip();
         Ok(patterns)
     }
 
     /// A pattern and the `:=` behind it.
-    fn bound(&mut self) -> Result<Pattern, Stop>
+    fn bound(&mut self) -> Result<Pattern, ReadStop>
         ensures gives { GivesPlain result self.old self.new reading.bound_at }
         ensures shorter { OnOk result (Advances self.old self.new) }
     {
         let pattern = self.pattern()?;
         if !self.at_becomes() {
-            return Err(Stop::Unexpected);
+            return Err(ReadStop::Unexpected);
         }
         self.skip();
         Ok(pattern)
     }
 
     /// A list of patterns, behind its opening bracket, and the `:=` behind it.
-    fn bound_list(&mut self) -> Result<Vec<Pattern>, Stop>
+    fn bound_list(&mut self) -> Result<Vec<Pattern>, ReadStop>
         ensures gives { GivesPatterns result self.old self.new reading.bound_list_at }
         ensures shorter { OnOk result (Advances self.old self.new) }
     {
         let patterns = self.pattern_list(Bracket::Square)?;
         if !self.at_becomes() {
-            return Err(Stop::Unexpected);
+            return Err(ReadStop::Unexpected);
         }
         self.skip();
         Ok(patterns)
     }
 
     /// A name and the `:=` behind it.
-    fn assigned(&mut self) -> Result<Text, Stop>
+    fn assigned(&mut self) -> Result<Text, ReadStop>
         ensures gives { GivesPlain result self.old self.new reading.assigned_at }
         ensures shorter { OnOk result (Advances self.old self.new) }
     {
         let name = self.name()?;
         if !self.at_becomes() {
-            return Err(Stop::Unexpected);
+            return Err(ReadStop::Unexpected);
         }
         self.skip();
         Ok(name)
     }
 
     /// What a definition binds, behind its first word.
-    fn definition(&mut self) -> Result<Option<Target>, Stop>
+    fn definition(&mut self) -> Result<Option<Target>, ReadStop>
         ensures gives { GivesPlace result self.old self.new reading.define_at }
         ensures shorter { OnOk result (Advances self.old self.new) }
     {
@@ -216,7 +216,7 @@ impl<'a> Reader<'a> {
     }
 
     /// What the value behind it is given to, if there is a `:=`.
-    pub(crate) fn target(&mut self) -> Result<Option<Target>, Stop>
+    pub(crate) fn target(&mut self) -> Result<Option<Target>, ReadStop>
         ensures gives { GivesPlace result self.old self.new reading.target_at }
         ensures shorter { OnOk result (IsNoLonger self.old self.new) }
     {

@@ -8,8 +8,8 @@ use Rattle.ereader_signs.specs.declared.operator.Level.{Level}
 use Rattle.ereader_signs.specs.declared.operator.Level.TheVariants as level
 use Rattle.ereader_signs.specs.declared.operator.Prefix.{Prefix}
 use Rattle.ereader_signs.specs.declared.operator.Prefix.TheVariants as prefix
-use Rattle.ereader_signs.specs.declared.operator.Link.{Link}
-use Rattle.ereader_signs.specs.declared.operator.Link.TheVariants as link
+use Rattle.ereader_signs.specs.declared.operator.CallSign.{CallSign}
+use Rattle.ereader_signs.specs.declared.operator.CallSign.TheVariants as link
 use Rattle.etoken.specs.declared.breaks.Bracket.{Bracket}
 use Rattle.etoken.specs.declared.breaks.Bracket.TheVariants as bracket
 
@@ -61,7 +61,7 @@ prefix_operator sign.Minus = Some prefix.Negate
 prefix_operator _ = None
 
 -- what makes a call or a send of what stands before it
-abbrev pub link_of : signs.Sign → Option Link
+abbrev pub link_of : signs.Sign → Option CallSign
 link_of sign.Dot = Some link.Method
 link_of sign.OpenRound = Some link.Run
 link_of sign.OpenSquare = Some link.Index
@@ -69,21 +69,21 @@ link_of sign.SendTo = Some link.Send
 link_of _ = None
 
 -- a send, and not a call
-abbrev pub is_send : Link → Bool
+abbrev pub is_send : CallSign → Bool
 is_send link.Method = false
 is_send link.Run = false
 is_send link.Index = false
 is_send link.Send = true
 
 -- its verb, where no name may stand for it
-abbrev pub verb_of : Link → Option (List ℕ)
+abbrev pub verb_of : CallSign → Option (List ℕ)
 verb_of link.Method = None
 verb_of link.Run = Some (codes "run")
 verb_of link.Index = Some (codes "get")
 verb_of link.Send = None
 
 -- the bracket that its arguments stand in
-abbrev pub closer : Link → Bracket
+abbrev pub closer : CallSign → Bracket
 closer link.Method = bracket.Round
 closer link.Run = bracket.Round
 closer link.Index = bracket.Square

@@ -96,7 +96,7 @@ impl Prefix {
 
 /// What makes a call or a send of the receiver before it.
 #[derive(Clone, Copy)]
-pub enum Link {
+pub enum CallSign {
     /// `.verb(`
     Method,
     /// `(`
@@ -107,16 +107,16 @@ pub enum Link {
     Send,
 }
 
-impl Link {
+impl CallSign {
     /// What a sign behind a receiver begins, if it makes a call or a send of it.
-    pub fn of(sign: Sign) -> Option<Link>
+    pub fn of(sign: Sign) -> Option<CallSign>
         ensures { result ≡ link_of sign }
     {
         match sign {
-            Sign::Dot => Some(Link::Method),
-            Sign::OpenRound => Some(Link::Run),
-            Sign::OpenSquare => Some(Link::Index),
-            Sign::SendTo => Some(Link::Send),
+            Sign::Dot => Some(CallSign::Method),
+            Sign::OpenRound => Some(CallSign::Run),
+            Sign::OpenSquare => Some(CallSign::Index),
+            Sign::SendTo => Some(CallSign::Send),
             _ => None,
         }
     }
@@ -126,8 +126,8 @@ impl Link {
         ensures { result ≡ is_send self }
     {
         match self {
-            Link::Method | Link::Run | Link::Index => false,
-            Link::Send => true,
+            CallSign::Method | CallSign::Run | CallSign::Index => false,
+            CallSign::Send => true,
         }
     }
 
@@ -136,9 +136,9 @@ impl Link {
         ensures { IfOk result (λ verb. verb ≡ verb_of self) }
     {
         Ok(match self {
-            Link::Method | Link::Send => None,
-            Link::Run => Some(Text::new(alloc, "run")?),
-            Link::Index => Some(Text::new(alloc, "get")?),
+            CallSign::Method | CallSign::Send => None,
+            CallSign::Run => Some(Text::new(alloc, "run")?),
+            CallSign::Index => Some(Text::new(alloc, "get")?),
         })
     }
 
@@ -147,8 +147,8 @@ impl Link {
         ensures { result ≡ closer self }
     {
         match self {
-            Link::Method | Link::Run | Link::Send => Bracket::Round,
-            Link::Index => Bracket::Square,
+            CallSign::Method | CallSign::Run | CallSign::Send => Bracket::Round,
+            CallSign::Index => Bracket::Square,
         }
     }
 }

@@ -8,7 +8,7 @@ use etoken::tokens::tokens;
 use ids::text::Text;
 use kernele::print;
 use kernele::tree::{Expr, Pattern, Program};
-use kernele_scopes::{Kind, TopName, captured_by_when, captured_names, top_names};
+use kernele_scopes::{NameKind, TopName, captured_by_when, captured_names, top_names};
 use std::alloc::{AllocError, Global};
 use std::fmt::Write;
 
@@ -118,8 +118,8 @@ fn write_token(token: &Token, out: &mut String) -> Result<(), AllocError> {
 fn write_names(names: &[TopName], out: &mut String) -> Result<(), AllocError> {
     for found in names {
         let kind = match found.kind {
-            Kind::Definition => "def",
-            Kind::Variable => "var",
+            NameKind::Definition => "def",
+            NameKind::Variable => "var",
         };
         write!(out, "{kind} {} ", found.name)?;
     }

@@ -22,7 +22,7 @@ use Rattle.eval_rules.specs.View.{at, opened_of}
 use Rattle.eval_rules.specs.declared.local.Local.{Local}
 use Rattle.eval_rules.specs.declared.end.Stop.{Stop}
 use Rattle.eval_rules.specs.declared.end.Stop.TheVariants as stop
-use Rattle.eval_rules.specs.declared.entry.Entry.{Entry}
+use Rattle.eval_rules.specs.declared.entry.MethodEntry.{MethodEntry}
 use Rattle.eval_rules.specs.declared.working.Working.{Working}
 use Rattle.eval_objects.specs.View.{Comes, gave, used, Led, OnEntry, OnTarget, entry_target}
 use Rattle.eval_rules.proofs.Opened.{taking_opened}
@@ -62,10 +62,10 @@ pub call_came : {k : ℕ} {r : Tree} {verb : Name} {xs ys : List Code} {a b z : 
 call_came same p h = came_to same p h.2 h.3
 
 -- what is said of a method that is entered, and of a call that enters none
-pub on_method : (m : Option Entry) (v : Value) (P : Target → At → Type 0) (b : At) {e : Entry} → m ≡ Some e → OnEntry m v P b → P (entry_target e) b
+pub on_method : (m : Option MethodEntry) (v : Value) (P : Target → At → Type 0) (b : At) {e : MethodEntry} → m ≡ Some e → OnEntry m v P b → P (entry_target e) b
 on_method m v P b is h = subst (λ m. OnEntry m v P b) is h
 
-pub on_none : (m : Option Entry) (v : Value) (P : Target → At → Type 0) (b : At) → m ≡ None → OnEntry m v P b → Led P (value (val_of v)) b
+pub on_none : (m : Option MethodEntry) (v : Value) (P : Target → At → Type 0) (b : At) → m ≡ None → OnEntry m v P b → Led P (value (val_of v)) b
 on_none m v P b is h = subst (λ m. OnEntry m v P b) is h
 
 -- a call that enters a method
@@ -99,7 +99,7 @@ leads_there {b = b} {g = g} v verb u h = record { gather = g; behind = b; args =
 led_there : {k : ℕ} {ts : Trees} {a b z : At} {g : Gather} {o : End} (v : Val) (verb : Name) → Args k ts a g b → Led (λ t z. (t ≡ target_of v verb g b) × (z ≡ called v verb g b)) o z → Led (Leads k ts v verb a) o z
 led_there v verb u h = (h.0, h.1, leads_there v verb u h.2, h.3)
 
-pub call_leads : (r : Result (Option Entry) Stop) (into : Value) (w : Working) {k : ℕ} {ts : Trees} {a b : At} {g : Gather} (v : Val) (verb : Name) → Args k ts a g b → OnTarget r into w (λ t z. (t ≡ target_of v verb g b) × (z ≡ called v verb g b)) → OnTarget r into w (Leads k ts v verb a)
+pub call_leads : (r : Result (Option MethodEntry) Stop) (into : Value) (w : Working) {k : ℕ} {ts : Trees} {a b : At} {g : Gather} (v : Val) (verb : Name) → Args k ts a g b → OnTarget r into w (λ t z. (t ≡ target_of v verb g b) × (z ≡ called v verb g b)) → OnTarget r into w (Leads k ts v verb a)
 call_leads (Ok (Some e)) into w v verb u h = leads_there v verb u h
 call_leads (Ok None) into w v verb u h = led_there v verb u h
 call_leads (Err stop.Memory) into w v verb u h = tt

@@ -6,7 +6,7 @@ use Rattle.std.specs.declared.alloc.Global.{Global}
 use Rattle.kernele.specs.Tree.{Name, Tree, state_ref}
 use Rattle.kernele.specs.declared.tree.Pattern.{Pattern}
 use Rattle.code.specs.View.{tree_of_code}
-use Rattle.code.specs.declared.code.Place.{Place}
+use Rattle.code.specs.declared.code.NounPlace.{NounPlace}
 use Rattle.code.specs.declared.code.Code as code
 use Rattle.code.specs.declared.code.Code.{Code}
 use Rattle.values.specs.Data.{Val}
@@ -74,7 +74,7 @@ right_placed _ is h r = absurd (cc)
 
 -- the right side of what has one
 pub side_of : {e : Code} (right : Arc Code Global)
-    → ((p : Pattern) × (e ≡ code.Def p right)) ⊎ (((x : Name) × (e ≡ code.Var x right)) ⊎ (((x : Name) × (at : Place) × (e ≡ code.Assign x at right)) ⊎ (((ps : Arc (Vec Pattern Global) Global) × (e ≡ code.DefList ps right)) ⊎ ((e ≡ code.Throw right) ⊎ ((e ≡ code.BreakRef right) ⊎ (e ≡ code.StateRef right))))))
+    → ((p : Pattern) × (e ≡ code.Def p right)) ⊎ (((x : Name) × (e ≡ code.Var x right)) ⊎ (((x : Name) × (at : NounPlace) × (e ≡ code.Assign x at right)) ⊎ (((ps : Arc (Vec Pattern Global) Global) × (e ≡ code.DefList ps right)) ⊎ ((e ≡ code.Throw right) ⊎ ((e ≡ code.BreakRef right) ⊎ (e ≡ code.StateRef right))))))
     → right_side e ≡ Some right.value
 side_of right (inl is) = ap right_side is.1
 side_of right (inr (inl is)) = ap right_side is.1
@@ -87,7 +87,7 @@ side_of right (inr (inr (inr (inr (inr (inr is)))))) = ap right_side is
 -- an expression of another kind has no right side: the value is left as it is
 pub takes_nothing : (e : Code) (o : End) (a : At)
     → ((x : Pattern) (r : Arc Code Global) → e ≡ code.Def x r → ⊥) → ((x : Name) (r : Arc Code Global) → e ≡ code.Var x r → ⊥)
-    → ((x : Name) (p : Place) (r : Arc Code Global) → e ≡ code.Assign x p r → ⊥) → ((ps : Arc (Vec Pattern Global) Global) (r : Arc Code Global) → e ≡ code.DefList ps r → ⊥)
+    → ((x : Name) (p : NounPlace) (r : Arc Code Global) → e ≡ code.Assign x p r → ⊥) → ((ps : Arc (Vec Pattern Global) Global) (r : Arc Code Global) → e ≡ code.DefList ps r → ⊥)
     → ((r : Arc Code Global) → e ≡ code.Throw r → ⊥) → ((r : Arc Code Global) → e ≡ code.BreakRef r → ⊥) → ((r : Arc Code Global) → e ≡ code.StateRef r → ⊥) → (o ≡ taken_end e o a) × (a ≡ taken_at e o a)
 takes_nothing (code.Def' x p r) o a d v s l t b q = absurd (d x (record { ptr = p.ptr; value = r }) refl)
 takes_nothing (code.Var' x p r) o a d v s l t b q = absurd (v x (record { ptr = p.ptr; value = r }) refl)

@@ -27,7 +27,7 @@ use eval_objects::quick::quick_value;
 use eval_objects::returns::{ejector_at_hand, returned};
 use eval_rules::blocks::{enter, leave};
 use eval_rules::end::Stop;
-use eval_rules::entry::Entry;
+use eval_rules::entry::MethodEntry;
 use eval_rules::escapes::{close_escape, eject, end_escape, open_escape};
 use eval_rules::working::Working;
 use heap::state::Binding;
@@ -146,7 +146,7 @@ fn eval_target(
     args: &[Code],
     level: u32,
     into: &mut Value,
-) -> Result<Option<Entry>, Stop>
+) -> Result<Option<MethodEntry>, Stop>
     requires level { level ≤ DEEPEST + 1 }
     requires fits { all_fit_at (at w.old) args.now }
     ensures { OnTarget result into.new w.new (Leads level (trees_of_codes args.now) (val_of receiver.old) verb.now (at w.old)) }
@@ -162,12 +162,17 @@ fn eval_target(
 
 /// Evaluates a method's block with the names that it begins with.
 #[cycle(evaluate)]
-fn eval_method(w: &mut Working, entry: Entry, level: u32, into: &mut Value) -> Result<(), Stop>
+fn eval_method(
+    w: &mut Working,
+    entry: MethodEntry,
+    level: u32,
+    into: &mut Value,
+) -> Result<(), Stop>
     requires { level ≤ DEEPEST + 1 }
     ensures { OnEnd result into.new w.new (λ o b. (d : At) × Items level null (trees_of_codes entry.body.value.items) (inside (locals_after (nouns_of (captured_in entry.captured)) entry.nouns.items) (at w.old)) o d
         × (b ≡ leaving (at w.old) d)) }
 {
-    let Entry {
+    let MethodEntry {
         captured,
         nouns,
         body,

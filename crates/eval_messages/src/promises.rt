@@ -16,7 +16,7 @@ use eval_rules::outbox::Note;
 use eval_rules::working::{MAX_OBJECTS, Working};
 use ids::names::{ObjId, PromId};
 use post::published::Published;
-use sends::publishing::{Resolved, resolve, smash};
+use sends::publishing::{Resolution, resolve, smash};
 use sends::refusing::Making;
 use sends::sending::promise;
 use std::alloc::{AllocError, Global};
@@ -76,7 +76,7 @@ pub fn use_smash(
 fn finish_use(
     w: &mut Working,
     promise: PromId,
-    making: Making<Resolved>,
+    making: Making<Resolution>,
     into: &mut Value,
 ) -> Result<(), Stop>
     ensures { OnEnd result into.new w.new (λ o b. (o ≡ resolver_end (making_of published_of making))
@@ -93,7 +93,7 @@ fn finish_use(
 }
 
 /// Puts what a promise is published as into the outbox, with a note.
-fn publish(w: &mut Working, promise: PromId, resolved: Resolved) -> Result<(), AllocError>
+fn publish(w: &mut Working, promise: PromId, resolved: Resolution) -> Result<(), AllocError>
     ensures { OnOk result (at w.new ≡ record (at w.old) { out = published_out promise (published_of resolved) (at w.old).out }) }
 {
     let published = Published::new(w.alloc, resolved.value, resolved.fences)?;

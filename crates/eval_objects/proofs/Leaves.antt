@@ -5,7 +5,7 @@ use Rattle.kernele.specs.Tree.{Name, Tree, Trees, int_tree, noun, call, assign, 
 use Rattle.code.specs.Frames.{after, fits_all, place_in}
 use Rattle.code.specs.View.{tree_of_code, trees_of_codes}
 use Rattle.code.specs.declared.code.Code.{Code}
-use Rattle.code.specs.declared.code.Place.{Place}
+use Rattle.code.specs.declared.code.NounPlace.{NounPlace}
 use Rattle.values.specs.Data.{Val, int, null, no_vals, and_val, gives}
 use Rattle.values.specs.Replies.{data_reply}
 use Rattle.std.specs.Prelude.{IfSome}
@@ -111,7 +111,7 @@ pub fourth : (n : ℕ) → n - 4 ≡ n - 1 - 3
 fourth n = omega arith
 
 -- the name of an assignment is at its place where the right side is at hand
-pub placed_at_hand : (a : At) (c d : Code) {p : Place} {v : Val} (x : Name) → c ≡ d → AtHand a (tree_of_code c) 3 v → p ≡ place_in (frame_behind a d) x → p ≡ place_in (frame_at a) x
+pub placed_at_hand : (a : At) (c d : Code) {p : NounPlace} {v : Val} (x : Name) → c ≡ d → AtHand a (tree_of_code c) 3 v → p ≡ place_in (frame_behind a d) x → p ≡ place_in (frame_at a) x
 placed_at_hand a c d {p = p} {v = v} x same at_hand h = placed_then x (subst (λ e. AtHand a (tree_of_code e) 3 v) same at_hand 1 3 (omega arith) (omega arith)) h
 
 -- an assignment of an integer that is at hand

@@ -6,8 +6,8 @@ use Rattle.std.specs.Str.{bytes_eq}
 use Rattle.std.proofs.lemmas.List.{get_or_append_left, get_or-append_right, get_or-map, get_or-take, get_or_push, length-map, length-take-le}
 use Rattle.kernele.specs.Tree.{Name}
 use Rattle.code.specs.Frames.{newest, or_oldest, place_at, place_in}
-use Rattle.code.specs.declared.code.Place.{Place}
-use Rattle.code.specs.declared.code.Place.TheVariants as place
+use Rattle.code.specs.declared.code.NounPlace.{NounPlace}
+use Rattle.code.specs.declared.code.NounPlace.TheVariants as place
 use Rattle.heap.specs.State.{Bind, Nouns, lookup, Content, bound, State, read, top, frame_of}
 use Rattle.heap.specs.View.{bind_of, nouns_of, nouns_after}
 use Rattle.heap.specs.declared.state.Noun.{Noun}
@@ -127,7 +127,7 @@ local_there cs k xs i n x h more is e =
     ∙ ap (λ (m : Name × Bind). Some m.1) (get_or-append_right ks (map of_local xs) k i (of_local n) (length-captured cs k h) more ∙ get_or-map of_local xs (i - k) n (of_local n) some)
     ∙ ap (λ (m : Local). Some (bind_of m.binding)) (sym is)
 
-abbrev of_place : Place → Option ℕ
+abbrev of_place : NounPlace → Option ℕ
 of_place (place.Frame i) = Some i
 of_place place.Top = None
 
@@ -136,34 +136,34 @@ place_undone (Some i) = refl
 place_undone None = refl
 
 -- the position that a place tells
-told : (ns : Nouns) (x : Name) (p q : Place) → p ≡ place_in (frame_of ns) x → p ≡ q → newest (frame_of ns) x ≡ of_place q
+told : (ns : Nouns) (x : Name) (p q : NounPlace) → p ≡ place_in (frame_of ns) x → p ≡ q → newest (frame_of ns) x ≡ of_place q
 told ns x p q h e = sym (place_undone (newest (frame_of ns) x)) ∙ ap of_place (sym h ∙ e)
 
-pub told_at : (ns : Nouns) (x : Name) (p : Place) (i : ℕ) → p ≡ place_in (frame_of ns) x → p ≡ place.Frame i → newest (frame_of ns) x ≡ Some i
+pub told_at : (ns : Nouns) (x : Name) (p : NounPlace) (i : ℕ) → p ≡ place_in (frame_of ns) x → p ≡ place.Frame i → newest (frame_of ns) x ≡ Some i
 told_at ns x p i h e = told ns x p (place.Frame i) h e
 
-pub within : (ns : Nouns) (x : Name) (p : Place) (i : ℕ) → p ≡ place_in (frame_of ns) x → p ≡ place.Frame i → i < length ns
+pub within : (ns : Nouns) (x : Name) (p : NounPlace) (i : ℕ) → p ≡ place_in (frame_of ns) x → p ≡ place.Frame i → i < length ns
 within ns x p i h e = inside ns x i (told_at ns x p i h e)
 
 top_found : {A : Type 0} (f : A → Bind) (r : Option A) (m : Option Content) → option_map (λ b. bound (f b)) r ≡ m → option_map f r ≡ top_bind m
 top_found f (Some b) m e = ap top_bind e
 top_found f None m e = ap top_bind e
 
-pub found_outside : {A : Type 0} (f : A → Bind) (r : Option A) (ns : Nouns) (x : Name) (p : Place) (s : State) → p ≡ place_in (frame_of ns) x → p ≡ place.Top → option_map (λ b. bound (f b)) r ≡ read s (top x)
+pub found_outside : {A : Type 0} (f : A → Bind) (r : Option A) (ns : Nouns) (x : Name) (p : NounPlace) (s : State) → p ≡ place_in (frame_of ns) x → p ≡ place.Top → option_map (λ b. bound (f b)) r ≡ read s (top x)
     → option_map f r ≡ found s x (lookup ns x)
 found_outside f r ns x p s h e is = top_found f r (read s (top x)) is ∙ sym (ap (found s x) (unseen ns x (told ns x p place.Top h e)))
 
 -- to seek a name that is in the frame touches nothing ..
-pub sought_inside : (ns : Nouns) (x : Name) (p : Place) (i : ℕ) (a : At) → p ≡ place_in (frame_of ns) x → p ≡ place.Frame i → a ≡ sought_in x (lookup ns x) a
+pub sought_inside : (ns : Nouns) (x : Name) (p : NounPlace) (i : ℕ) (a : At) → p ≡ place_in (frame_of ns) x → p ≡ place.Frame i → a ≡ sought_in x (lookup ns x) a
 sought_inside [] x p i a h e = absurd (omega (arith, within [] x p i h e))
 sought_inside (n ∷ ns) x p i a h e = sym (ap (λ m. sought_in x m a) (seen (n ∷ ns) x i n (told_at (n ∷ ns) x p i h e)))
 
 -- .. and of any other its top noun
-pub sought_outside : (ns : Nouns) (x : Name) (p : Place) (a : At) → p ≡ place_in (frame_of ns) x → p ≡ place.Top → reached (top x) a ≡ sought_in x (lookup ns x) a
+pub sought_outside : (ns : Nouns) (x : Name) (p : NounPlace) (a : At) → p ≡ place_in (frame_of ns) x → p ≡ place.Top → reached (top x) a ≡ sought_in x (lookup ns x) a
 sought_outside ns x p a h e = sym (ap (λ m. sought_in x m a) (unseen ns x (told ns x p place.Top h e)))
 
 -- a top noun that was touched before is at hand
-pub peeked_outside : {A : Type 0} (f : A → Bind) (r : Option A) (x : Name) (p : Place) (a : At) → p ≡ place_in (frame_of a.nouns) x → p ≡ place.Top
+pub peeked_outside : {A : Type 0} (f : A → Bind) (r : Option A) (x : Name) (p : NounPlace) (a : At) → p ≡ place_in (frame_of a.nouns) x → p ≡ place.Top
     → IfSome r (λ b. a.touched (top x) ≡ true) → IfSome r (λ b. read a.state (top x) ≡ Some (bound (f b))) → IfSome r (λ b. StandsAtHand x (f b) a)
 peeked_outside f (Some b) x p a h e touched holds =
     let unknown : lookup a.nouns x ≡ None = unseen a.nouns x (told a.nouns x p place.Top h e) in

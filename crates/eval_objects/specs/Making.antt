@@ -12,7 +12,7 @@ use Rattle.eval_rules.specs.At.{At}
 use Rattle.eval_rules.specs.Doings.{has_object_room}
 use Rattle.eval_rules.specs.Outcomes.{Halt, End, value, halt}
 use Rattle.eval_rules.specs.Rules.{parts_of, parts_bound, parts_end, captured, missing, all_captured, all_sought, capture_of, capturing, placed, placed_end, with_object, object_end, undefined_noun, when_end, when_made, Target, gives, no_such_method, method_in, method_target, callee_of, callee_target, callee_read}
-use Rattle.eval_rules.specs.declared.entry.Entry.{Entry}
+use Rattle.eval_rules.specs.declared.entry.MethodEntry.{MethodEntry}
 use Rattle.eval_objects.specs.View.{entered_or}
 
 -- a list of patterns takes the items of an end, where a value was given
@@ -48,5 +48,5 @@ abbrev pub CallsEnd : Val → Name → Vals → At → Target → At → Type 0
 CallsEnd v verb vs a t b = (t ≡ callee_target (callee_of a.vat v) v verb vs a) × (b ≡ callee_read (callee_of a.vat v) v verb vs a)
 
 -- a call on an object enters the method that is found for it, or none
-abbrev pub EntersMethod : ObjId → Plain → Name → Vals → Option Entry → Type 0
+abbrev pub EntersMethod : ObjId → Plain → Name → Vals → Option MethodEntry → Type 0
 EntersMethod i plain verb vs e = entered_or (gives (no_such_method verb vs)) e ≡ method_target i plain verb vs (method_in plain.methods verb vs)

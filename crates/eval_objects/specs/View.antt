@@ -16,7 +16,7 @@ use Rattle.eval_rules.specs.Doings.{given_by, behind, resolver_end, resolver_out
 use Rattle.sends.specs.Vats.{Vat}
 use Rattle.sends.specs.Making.{Making, Published}
 use Rattle.eval_rules.specs.declared.end.Stop.{Stop}
-use Rattle.eval_rules.specs.declared.entry.Entry.{Entry}
+use Rattle.eval_rules.specs.declared.entry.MethodEntry.{MethodEntry}
 use Rattle.eval_rules.specs.declared.working.Working.{Working}
 use Rattle.eval_objects.specs.declared.objects.Met.{Met}
 use Rattle.eval_objects.specs.declared.objects.Met.TheVariants as met
@@ -39,11 +39,11 @@ pub data Comes : Target → At → End → At → Type 0 where
 abbrev pub Led : (Target → At → Type 0) → End → At → Type 0
 Led P o b = (t : Target) × (a : At) × P t a × Comes t a o b
 
-abbrev pub entry_target : Entry → Target
+abbrev pub entry_target : MethodEntry → Target
 entry_target e = enters (locals_after (nouns_of (captured_in e.captured)) e.nouns.items) (trees_of_codes e.body.value.items)
 
 -- what a call leads to that enters a method, or else this
-abbrev pub entered_or : Target → Option Entry → Target
+abbrev pub entered_or : Target → Option MethodEntry → Target
 entered_or t (Some e) = entry_target e
 entered_or t None = t
 
@@ -58,10 +58,10 @@ IsNoMethod (met.Method e) = ⊥
 IsNoMethod _ = Unit {0}
 
 -- of a method that is entered, or of a value where none is
-abbrev pub OnEntry : Option Entry → Value → (Target → At → Type 0) → At → Type 0
+abbrev pub OnEntry : Option MethodEntry → Value → (Target → At → Type 0) → At → Type 0
 OnEntry (Some e) v P b = P (entry_target e) b
 OnEntry None v P b = Led P (value (val_of v)) b
 
 -- for the answer of a call, whose value is put into a place where it enters no method: this holds of what it leads to
-abbrev pub OnTarget : Result (Option Entry) Stop → Value → Working → (Target → At → Type 0) → Type 0
+abbrev pub OnTarget : Result (Option MethodEntry) Stop → Value → Working → (Target → At → Type 0) → Type 0
 OnTarget answer v w P = OnAnswer answer w (λ e b. OnEntry e v P b) (λ h b. Led P (halt h) b)

@@ -16,7 +16,7 @@ use eval_messages::calls::call_datum;
 use eval_messages::ends::take_end;
 use eval_messages::places::here;
 use eval_rules::end::Stop;
-use eval_rules::entry::Entry;
+use eval_rules::entry::MethodEntry;
 use eval_rules::escapes::call_ejector;
 use eval_rules::halting::throw_made;
 use eval_rules::local::{Local, let_go};
@@ -60,7 +60,7 @@ pub fn call_target(
     verb: &Verb,
     args: &mut [Value],
     into: &mut Value,
-) -> Result<Option<Entry>, Stop>
+) -> Result<Option<MethodEntry>, Stop>
     ensures { OnTarget result into.new w.new (λ t b. (t ≡ target_of (val_of receiver.old) verb.now (values (vals_of args.old)) (at w.old))
         × (b ≡ called (val_of receiver.old) verb.now (values (vals_of args.old)) (at w.old))) }
 {
@@ -93,7 +93,7 @@ fn call_end(
     verb: &Verb,
     args: &mut [Value],
     into: &mut Value,
-) -> Result<Option<Entry>, Stop>
+) -> Result<Option<MethodEntry>, Stop>
     ensures { OnTarget result into.new w.new (CallsEnd (val_of receiver.now) verb.now (vals_of args.old) (at w.old)) }
 {
     match called_on(here(w), receiver) {

@@ -17,7 +17,7 @@ ghost use Rattle.heap.specs.View.{bind_of};
 ghost use Rattle.heap.specs.Drafts.{draft_of};
 ghost use Rattle.eval_rules.specs.View.{at};
 
-use code::code::Place;
+use code::code::NounPlace;
 use eval_rules::end::{Abandon, Stop};
 use eval_rules::halting::{abandon, throw_made};
 use eval_rules::local::Local;
@@ -33,7 +33,12 @@ use values::value::Value;
 
 /// Reads the value of a noun: a slot gives what it holds.
 #[inline(always)]
-pub fn read_noun(w: &mut Working, name: &Text, place: Place, into: &mut Value) -> Result<(), Stop>
+pub fn read_noun(
+    w: &mut Working,
+    name: &Text,
+    place: NounPlace,
+    into: &mut Value,
+) -> Result<(), Stop>
     requires { place ≡ place_in (frame_at (at w.old)) name.now }
     ensures { OnEnd result into.new w.new (λ o b. (o
         ≡ noun_end_of (draft_of w.old.draft) name.now (sought name.now (at w.old)))
@@ -88,25 +93,25 @@ fn undefined_problem(alloc: Global, name: &Text) -> Result<Text, AllocError>
 
 /// Reads the top noun's cell of a name that is in no scope.
 #[inline(always)]
-pub(crate) fn reach_name(w: &mut Working, name: &Text, place: Place) -> Result<(), AllocError>
+pub(crate) fn reach_name(w: &mut Working, name: &Text, place: NounPlace) -> Result<(), AllocError>
     requires { place ≡ place_in (frame_at (at w.old)) name.now }
     ensures { OnOk result (at w.new ≡ seeking name.now (at w.old)) }
 {
     match place {
-        Place::Frame(_) => Ok(()),
-        Place::Top => w.draft.reach_top(name),
+        NounPlace::Frame(_) => Ok(()),
+        NounPlace::Top => w.draft.reach_top(name),
     }
 }
 
 /// What a name stands for: its newest meaning in the scopes, which is at its place, else the vat's top noun.
 #[inline(always)]
-pub(crate) fn seek<'a>(w: &'a Working, name: &Text, place: Place) -> Option<&'a Binding>
+pub(crate) fn seek<'a>(w: &'a Working, name: &Text, place: NounPlace) -> Option<&'a Binding>
     requires { place ≡ place_in (frame_at (at w.now)) name.now }
     ensures { option_map (λ b. bind_of b.now) result ≡ sought name.now (at w.now) }
 {
     match place {
-        Place::Frame(i) => Some(binding_at(w, i)),
-        Place::Top => w.draft.top(name),
+        NounPlace::Frame(i) => Some(binding_at(w, i)),
+        NounPlace::Top => w.draft.top(name),
     }
 }
 
@@ -129,7 +134,7 @@ pub(crate) fn binding_at<'a>(w: &'a Working, position: usize) -> &'a Binding
 }
 
 /// The slot that a name stands for.
-fn seek_slot(w: &Working, name: &Text, place: Place) -> Option<SlotId>
+fn seek_slot(w: &Working, name: &Text, place: NounPlace) -> Option<SlotId>
     requires { place ≡ place_in (frame_at (at w.now)) name.now }
     ensures { result ≡ sought_slot name.now (at w.now) }
 {
@@ -223,7 +228,7 @@ pub fn declare(w: &mut Working, name: &Text, value: &Value) -> Result<(), Stop>
 
 /// Lets the slot that a name stands for hold this value. What stands for no slot is undefined here:
 /// a program that assigns to a definition is refused before it runs.
-pub fn assign(w: &mut Working, name: &Text, place: Place, value: &Value) -> Result<(), Stop>
+pub fn assign(w: &mut Working, name: &Text, place: NounPlace, value: &Value) -> Result<(), Stop>
     requires { place ≡ place_in (frame_at (at w.old)) name.now }
     ensures { OnEnd result value.now w.new (λ o b. (o
         ≡ assigned_end name.now (value_end (val_of value.now)) (sought_slot name.now (at w.old)))

@@ -29,7 +29,7 @@ use crate::resolvers::call_resolver;
 use code::code::{Capture as CaptureCode, MethodCode};
 use code::index::{MethodIndex, share_index};
 use eval_rules::end::{Abandon, Stop};
-use eval_rules::entry::Entry;
+use eval_rules::entry::MethodEntry;
 use eval_rules::halting::abandon;
 use eval_rules::local::Local;
 use eval_rules::results::no_such_method;
@@ -146,7 +146,7 @@ pub(crate) fn object_target(
     verb: &Verb,
     args: &mut [Value],
     into: &mut Value,
-) -> Result<Option<Entry>, Stop>
+) -> Result<Option<MethodEntry>, Stop>
     ensures { OnTarget result into.new w.new (λ t b. (t
         ≡ object_target_of id (read (draft_of w.old.draft) (object_cell id)) verb.now (vals_of args.old))
         × (b ≡ reached (object_cell id) (at w.old))) }
@@ -170,7 +170,7 @@ pub(crate) fn object_target(
 /// What a call meets on an object.
 #[derive(Drop)]
 enum Met {
-    Method(Entry),
+    Method(MethodEntry),
     /// The object is the resolver of this promise.
     Resolver(PromId),
     Nothing,
@@ -210,7 +210,7 @@ fn method_entry(
     object: &Plain,
     verb: &Verb,
     args: &mut [Value],
-) -> Result<Option<Entry>, AllocError>
+) -> Result<Option<MethodEntry>, AllocError>
     requires { frame.items ≡ [] }
     ensures entry { IfOk result (λ e. EntersMethod id (plain_of object.now) verb.now (vals_of args.old) e) }
     ensures kept { IfOk result (λ e. IfNone e (args.new ≡ args.old)) }
@@ -220,7 +220,7 @@ fn method_entry(
             let captured = share_captured(&object.captured)?;
             let body = Arc::try_clone(&method.body)?;
             let nouns = method_nouns(frame, id, object, method.parameters.as_slice(), args)?;
-            Ok(Some(Entry {
+            Ok(Some(MethodEntry {
                 captured,
                 nouns,
                 body,

@@ -17,7 +17,7 @@ ghost use Rattle.eval_rules.specs.View.{at};
 
 use crate::growing::grow_variable;
 use crate::nouns::binding_at;
-use code::code::{Code, Place};
+use code::code::{Code, NounPlace};
 use eval_rules::working::{DEEPEST, Working};
 use heap::state::Binding;
 use ids::names::SlotId;
@@ -231,19 +231,19 @@ fn integer_at(w: &Working, e: &Code) -> Option<i64>
 
 /// What a name stands for, if that is in a scope or its top noun was touched before.
 #[inline(always)]
-pub(crate) fn peek<'a>(w: &'a Working, name: &Text, place: Place) -> Option<&'a Binding>
+pub(crate) fn peek<'a>(w: &'a Working, name: &Text, place: NounPlace) -> Option<&'a Binding>
     requires { place ≡ place_in (frame_at (at w.now)) name.now }
     ensures { IfSome result (λ b. StandsAtHand name.now (bind_of b.now) (at w.now)) }
 {
     match place {
-        Place::Frame(i) => Some(binding_at(w, i)),
-        Place::Top => w.draft.peek_top(name),
+        NounPlace::Frame(i) => Some(binding_at(w, i)),
+        NounPlace::Top => w.draft.peek_top(name),
     }
 }
 
 /// The slot that a name stands for, if it is found so.
 #[inline(always)]
-pub(crate) fn slot_of(w: &Working, name: &Text, place: Place) -> Option<SlotId>
+pub(crate) fn slot_of(w: &Working, name: &Text, place: NounPlace) -> Option<SlotId>
     requires { place ≡ place_in (frame_at (at w.now)) name.now }
     ensures { IfSome result (λ i. StandsAtHand name.now (slot i) (at w.now)) }
 {
@@ -255,7 +255,7 @@ pub(crate) fn slot_of(w: &Working, name: &Text, place: Place) -> Option<SlotId>
 
 /// The integer that a noun stands for, if it stands for one and is found so.
 #[inline(always)]
-fn integer_of(w: &Working, name: &Text, place: Place) -> Option<i64>
+fn integer_of(w: &Working, name: &Text, place: NounPlace) -> Option<i64>
     requires { place ≡ place_in (frame_at (at w.now)) name.now }
     ensures { IfSome result (λ n. GivesAtHand name.now (int n) (at w.now)) }
 {
@@ -271,7 +271,7 @@ fn integer_of(w: &Working, name: &Text, place: Place) -> Option<i64>
 
 /// What a noun gives, if it is at hand.
 #[inline(always)]
-pub(crate) fn value_at_hand<'a>(w: &'a Working, name: &Text, place: Place) -> Option<&'a Value>
+pub(crate) fn value_at_hand<'a>(w: &'a Working, name: &Text, place: NounPlace) -> Option<&'a Value>
     requires { place ≡ place_in (frame_at (at w.now)) name.now }
     ensures { IfSome result (λ v. GivesAtHand name.now (val_of v.now) (at w.now)) }
 {

@@ -9,7 +9,7 @@ ghost use Rattle.eval_rules.specs.View.{at};
 ghost use Rattle.eval_objects.specs.Leaves.{GivesAtHand, Leaf, Returns, SendsTo};
 
 use crate::quick::peek;
-use code::code::{Code, Place};
+use code::code::{Code, NounPlace};
 use eval_messages::places::here;
 use eval_rules::working::{DEEPEST, Working};
 use heap::state::Binding;
@@ -103,7 +103,7 @@ fn ejector_at(w: &Working, e: &Code) -> Option<EjId>
 
 /// The ejector that a name is bound to, if it is bound to one and is found at hand.
 #[inline(always)]
-fn ejector_of(w: &Working, name: &Text, place: Place) -> Option<EjId>
+fn ejector_of(w: &Working, name: &Text, place: NounPlace) -> Option<EjId>
     requires { place ≡ place_in (frame_at (at w.now)) name.now }
     ensures { IfSome result (λ i. GivesAtHand name.now (ejector_value i) (at w.now)) }
 {

@@ -9,7 +9,7 @@ use Rattle.kernele.specs.declared.tree.Pattern.TheVariants as pattern
 use Rattle.code.specs.Frames.{Frame, only_names, after, place_in, fits, fits_all, fits_methods}
 use Rattle.code.specs.View.{tree_of_code}
 use Rattle.code.specs.declared.code.Code.{Code}
-use Rattle.code.specs.declared.code.Place.{Place}
+use Rattle.code.specs.declared.code.NounPlace.{NounPlace}
 use Rattle.code.specs.declared.code.MethodCode.{MethodCode}
 use Rattle.kernele_scopes.specs.declared.naming.TopName.{TopName}
 use Rattle.values.specs.Data.{Val, Vals, no_vals, and_val}
@@ -49,7 +49,7 @@ pub repeated_fits : {k : ℕ} {t : Tree} {a b : At} {o : End} {vs : Vals} (xs : 
 repeated_fits {t = t} {a = a} {b = b} xs {es = es} same r e h = subst (fits_all false (frame_of b.nouns ++ xs)) (sym same) (arrived (λ o f. fits_all false (f ++ xs) es) t a b (lists_add r e) h)
 
 -- a name that is assigned is at its place behind the right side
-pub placed_then : {k : ℕ} {t : Tree} {a b : At} {v : Val} {p : Place} (x : Name) → Ends k t a (value v) b → p ≡ place_in (after a.own_scope t (frame_of a.nouns)) x → p ≡ place_in (frame_of b.nouns) x
+pub placed_then : {k : ℕ} {t : Tree} {a b : At} {v : Val} {p : NounPlace} (x : Name) → Ends k t a (value v) b → p ≡ place_in (after a.own_scope t (frame_of a.nouns)) x → p ≡ place_in (frame_of b.nouns) x
 placed_then x r h = h ∙ ap (λ f. place_in f x) (sym (ends_add r).0)
 
 -- the parts of code fit where the whole does

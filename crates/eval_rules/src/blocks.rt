@@ -9,7 +9,7 @@ use crate::working::Working;
 
 /// What a scope around a block was when the block began.
 #[derive(Clone, Copy)]
-pub struct Outer {
+pub struct ScopeMark {
     /// How many names there were.
     names: usize,
     own_scope: bool,
@@ -37,12 +37,12 @@ pub fn keep_names(w: &mut Working, count: usize)
 }
 
 /// Begins a scope of a block's own.
-pub fn enter(w: &mut Working) -> Outer
+pub fn enter(w: &mut Working) -> ScopeMark
     ensures names { result.names ≡ length (at w.old).nouns }
     ensures own { result.own_scope ≡ w.old.own_scope }
     ensures place { at w.new ≡ entering (at w.old) }
 {
-    let outer = Outer {
+    let outer = ScopeMark {
         names: count_names(w),
         own_scope: w.own_scope,
     };
@@ -51,7 +51,7 @@ pub fn enter(w: &mut Working) -> Outer
 }
 
 /// Ends a block's scope.
-pub fn leave(w: &mut Working, outer: Outer)
+pub fn leave(w: &mut Working, outer: ScopeMark)
     ensures place { at w.new ≡ record (at w.old) { nouns = oldest outer.names (at w.old).nouns; own_scope = outer.own_scope } }
     ensures halt { w.new.halt ≡ w.old.halt }
 {

@@ -13,7 +13,7 @@ use std::sync::Arc;
 /// A method's block and the names that it begins with, the newest last: those that its object captured, if there are any, which it
 /// shares with it, and then its own. The block fits just these.
 #[derive(Drop)]
-pub struct Entry {
+pub struct MethodEntry {
     pub captured: Option<Arc<Vec<Noun>>>,
     pub nouns: Vec<Local>,
     pub body: Arc<Vec<Code>>,

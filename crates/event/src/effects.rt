@@ -39,7 +39,7 @@ use post::program::{Question, Script};
 use post::vat::Vat;
 use std::alloc::{AllocError, Global};
 use std::sync::Arc;
-use turn_deliveries::outcome::{Ended, Outcome};
+use turn_deliveries::outcome::{Outcome, TurnEnd};
 use world_cells::record::CellRecord;
 use world_cells::world::World;
 
@@ -308,10 +308,10 @@ fn record_left(
     ensures { OnOk result (kepts_of records.new.items ≡ kepts_of records.old.items ++ kept_left event vat (left_of outcome.now)) }
 {
     match &outcome.ended {
-        Ended::Value(_) | Ended::Problem(_) => {
+        TurnEnd::Value(_) | TurnEnd::Problem(_) => {
             record_cells(records, event, vat, &outcome.footprint)
         }
-        Ended::Abandoned(_) => Ok(()),
+        TurnEnd::Abandoned(_) => Ok(()),
     }
 }
 

@@ -19,7 +19,7 @@ use values::sameness::same;
 use values::value::Value;
 
 /// What stands for what a cell holds.
-trait Held {
+trait StandsFor {
     ghost content: { Self → Content };
 
     /// Whether the other one stands for the same.
@@ -27,7 +27,7 @@ trait Held {
         ensures { IsTrue result ↔ (content self.now ≡ content other.now) };
 }
 
-impl Held for Binding {
+impl StandsFor for Binding {
     ghost content = { λ b. bound (bind_of b) };
 
     fn is_same(&self, other: &Binding) -> bool {
@@ -35,7 +35,7 @@ impl Held for Binding {
     }
 }
 
-impl Held for Value {
+impl StandsFor for Value {
     ghost content = { λ v. held (val_of v) };
 
     fn is_same(&self, other: &Value) -> bool {
@@ -43,7 +43,7 @@ impl Held for Value {
     }
 }
 
-impl Held for View {
+impl StandsFor for View {
     ghost content = { λ k. viewed (view_of k) };
 
     fn is_same(&self, other: &View) -> bool {
@@ -51,7 +51,7 @@ impl Held for View {
     }
 }
 
-impl Held for Fence {
+impl StandsFor for Fence {
     ghost content = { fenced };
 
     fn is_same(&self, other: &Fence) -> bool {
@@ -59,7 +59,7 @@ impl Held for Fence {
     }
 }
 
-impl Held for Made {
+impl StandsFor for Made {
     ghost content = { λ m. made (object_of m) };
 
     fn is_same(&self, other: &Made) -> bool {
@@ -68,7 +68,7 @@ impl Held for Made {
 }
 
 /// Whether two cells hold the same, or both nothing.
-fn both_hold<V: Held>(first: Option<&V>, second: Option<&V>) -> bool
+fn both_hold<V: StandsFor>(first: Option<&V>, second: Option<&V>) -> bool
     ensures { IsTrue result ↔ (option_map V.content (option_copied first.entry) ≡ option_map V.content (option_copied second.entry)) }
 {
     match (first, second) {
@@ -79,7 +79,7 @@ fn both_hold<V: Held>(first: Option<&V>, second: Option<&V>) -> bool
 }
 
 /// Whether cells of one kind hold what was found in each of them that was touched.
-fn hold_found<K: Key + Drop, V: Held + Drop>(
+fn hold_found<K: Key + Drop, V: StandsFor + Drop>(
     cells: &CellStore<K, V>,
     touches: &Touches<K, V>,
 ) -> bool

@@ -12,7 +12,7 @@ use Rattle.std.specs.declared.vec.Vec.{Vec}
 use Rattle.std.specs.declared.alloc.Global.{Global}
 use Rattle.kernele_scopes.specs.Scope.{Scopes, Checked, in_turn, checked, nodes, depth, depth_in, depth_of, own_names}
 use Rattle.kernele_scopes.specs.Free.{free}
-use Rattle.kernele_scopes.specs.Parts.{no_names_bound, pattern_bound, Part, nothing, evaluate_all, block, first, second, third, part_checked, part_names, part_free, part_nodes, part_depth}
+use Rattle.kernele_scopes.specs.Parts.{no_names_bound, pattern_bound, NamePart, nothing, evaluate_all, block, first, second, third, part_checked, part_names, part_free, part_nodes, part_depth}
 use Rattle.kernele_scopes.specs.declared.naming.TopName.{TopName}
 
 -- the first part of what begins with a block that begins with no names
@@ -80,15 +80,15 @@ checked_in_parts (break_ref e) s = ended _ ∙ ended _
 checked_in_parts (state_ref e) s = ended _ ∙ ended _
 
 -- the same from its first part on
-pub first_left : (t : Tree) (s : Scopes) {one : Part} → one ≡ first t → checked t s ≡ in_turn (in_turn (part_checked one s) (part_checked (second t))) (part_checked (third t))
+pub first_left : (t : Tree) (s : Scopes) {one : NamePart} → one ≡ first t → checked t s ≡ in_turn (in_turn (part_checked one s) (part_checked (second t))) (part_checked (third t))
 first_left t s is = checked_in_parts t s ∙ ap (λ p. in_turn (in_turn (part_checked p s) (part_checked (second t))) (part_checked (third t))) (sym is)
 
 -- from its second part on
-pub second_left : (t : Tree) (s : Scopes) {one two : Part} {after : Scopes} → one ≡ first t → part_checked one s ≡ Ok after → two ≡ second t → checked t s ≡ in_turn (part_checked two after) (part_checked (third t))
+pub second_left : (t : Tree) (s : Scopes) {one two : NamePart} {after : Scopes} → one ≡ first t → part_checked one s ≡ Ok after → two ≡ second t → checked t s ≡ in_turn (part_checked two after) (part_checked (third t))
 second_left t s is done then = first_left t s is ∙ λ i. in_turn (in_turn (done i) (part_checked (sym then i))) (part_checked (third t))
 
 -- and from its third part on
-pub third_left : (t : Tree) (s : Scopes) {one two three : Part} {after last : Scopes} → one ≡ first t → part_checked one s ≡ Ok after → two ≡ second t → part_checked two after ≡ Ok last → three ≡ third t → checked t s ≡ part_checked three last
+pub third_left : (t : Tree) (s : Scopes) {one two three : NamePart} {after last : Scopes} → one ≡ first t → part_checked one s ≡ Ok after → two ≡ second t → part_checked two after ≡ Ok last → three ≡ third t → checked t s ≡ part_checked three last
 third_left t s is done then next end = second_left t s is done then ∙ λ i. in_turn (next i) (part_checked (sym end i))
 
 -- what a tree defines, its parts define
@@ -121,7 +121,7 @@ names_in_parts (break_ref e) = simp append-nil
 names_in_parts (state_ref e) = simp append-nil
 
 -- what the third part of a tree adds to the names of the others, the tree adds
-pub names_left : (t : Tree) (was : List TopName) {one two three : Part} {now all : List TopName} → one ≡ first t → now ≡ was ++ part_names one → two ≡ second t → all ≡ now ++ part_names two → three ≡ third t → all ++ part_names three ≡ was ++ own_names t
+pub names_left : (t : Tree) (was : List TopName) {one two three : NamePart} {now all : List TopName} → one ≡ first t → now ≡ was ++ part_names one → two ≡ second t → all ≡ now ++ part_names two → three ≡ third t → all ++ part_names three ≡ was ++ own_names t
 names_left t was {two = two} {three = three} is more next last end =
     ap (λ names. names ++ part_names three) (last ∙ ap (λ names. names ++ part_names two) more)
     ∙ (λ i. ((was ++ part_names (is i)) ++ part_names (next i)) ++ part_names (end i))

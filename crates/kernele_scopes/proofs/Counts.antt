@@ -4,7 +4,7 @@ use Rattle.std.proofs.lemmas.Bool.Decides.{nat_tests}
 use Rattle.std.specs.Prelude.{nat_lt}
 use Rattle.kernele.specs.Tree.{Tree, Trees}
 use Rattle.kernele_scopes.specs.Scope.{nodes, nodes_in, depth, depth_in, Scopes, Checked, checked_all, checked_program}
-use Rattle.kernele_scopes.specs.Parts.{Part, first, second, third, part_nodes, part_depth}
+use Rattle.kernele_scopes.specs.Parts.{NamePart, first, second, third, part_nodes, part_depth}
 use Rattle.kernele_scopes.specs.Room.{room_behind}
 use Rattle.kernele_scopes.specs.declared.count.Room.{Room}
 use Rattle.kernele_scopes.proofs.Constructs.{nodes_in_parts, depth_in_parts}
@@ -71,7 +71,7 @@ behind_whole levels {below = below} o n d under node more lower =
     ap (λ r. room_behind below r n d) node ∙ behind_below levels below o n d under ∙ (λ i. room_behind levels o (sym more i) (sym lower i))
 
 -- what is left behind a tree, from what is left behind the node on it and then behind each of its parts
-pub behind_parts : (levels : ℕ) {below : ℕ} (o : Option Room) {passed after then_left last : Option Room} (t : Tree) {one two three : Part} → below ≡ levels - 1 → passed ≡ room_behind levels o 1 1
+pub behind_parts : (levels : ℕ) {below : ℕ} (o : Option Room) {passed after then_left last : Option Room} (t : Tree) {one two three : NamePart} → below ≡ levels - 1 → passed ≡ room_behind levels o 1 1
     → one ≡ first t → after ≡ room_behind below passed (part_nodes one) (part_depth one)
     → two ≡ second t → then_left ≡ room_behind below after (part_nodes two) (part_depth two)
     → three ≡ third t → last ≡ room_behind below then_left (part_nodes three) (part_depth three)

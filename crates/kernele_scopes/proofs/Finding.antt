@@ -7,7 +7,7 @@ use Rattle.std.specs.declared.alloc.Global.{Global}
 use Rattle.std.specs.Str.{bytes_eq}
 use Rattle.kernele.specs.Tree.{Name, Tree}
 use Rattle.kernele_scopes.specs.Free.{free, is_among, without, distinct}
-use Rattle.kernele_scopes.specs.Parts.{Part, first, second, third, part_names, part_free}
+use Rattle.kernele_scopes.specs.Parts.{NamePart, first, second, third, part_names, part_free}
 use Rattle.kernele_scopes.proofs.Constructs.{free_in_parts}
 use Rattle.kernele_scopes.specs.Found.{with_new, with_all_new}
 use Rattle.kernele_scopes.specs.declared.naming.TopName.{TopName}
@@ -26,7 +26,7 @@ pub truncated : {was now all last : List TopName} (n : ℕ) (xs ys : List TopNam
 truncated {was = was} n xs ys outer entered added back = back ∙ (λ i. take (outer i) ((added ∙ ap (λ names. names ++ ys) entered ∙ append_assoc was xs ys) i)) ∙ take-append_seam was (xs ++ ys)
 
 -- what is found in the third part of a tree behind the others, is found in the tree
-pub found_left : (t : Tree) (inside : List TopName) (was : List Name) {one two three : Part} {behind last : List TopName} {now all : List Name}
+pub found_left : (t : Tree) (inside : List TopName) (was : List Name) {one two three : NamePart} {behind last : List TopName} {now all : List Name}
     → one ≡ first t → behind ≡ inside ++ part_names one → now ≡ with_all_new was (part_free one inside)
     → two ≡ second t → last ≡ behind ++ part_names two → all ≡ with_all_new now (part_free two behind)
     → three ≡ third t → with_all_new all (part_free three last) ≡ with_all_new was (free t inside)

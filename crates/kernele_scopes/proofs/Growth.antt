@@ -4,8 +4,8 @@ use Rattle.kernele.specs.Tree.{Name, Tree, null_tree, bool_tree, int_tree, text_
 use Rattle.kernele_scopes.specs.Scope.{Names, Scopes, Refusal, Checked, in_turn, added, bound, all_bound, entered, left_for, in_block, checked_with, checked_taking, checked_methods, Signature, new_method, assigned, assigned_to, kind_in, checked, checked_all, with_names, with_name, defined_name, variable_name, name_of, names_of_all, own_names, own_names_in}
 use Rattle.kernele.specs.declared.tree.Pattern.{Pattern}
 use Rattle.kernele.specs.declared.tree.Pattern.TheVariants as pattern
-use Rattle.kernele_scopes.specs.declared.naming.Kind.{Kind}
-use Rattle.kernele_scopes.specs.declared.naming.Kind.TheVariants as kind
+use Rattle.kernele_scopes.specs.declared.naming.NameKind.{NameKind}
+use Rattle.kernele_scopes.specs.declared.naming.NameKind.TheVariants as kind
 use Rattle.kernele_scopes.specs.declared.naming.TopName.{TopName}
 
 -- the scopes with the names of a list besides
@@ -66,7 +66,7 @@ block_grows (Ok inner) s r e = same_scopes e
 block_grows (Err f) s r e = absurd (cc)
 
 -- an assignment adds nothing
-assigned_grows_case : (o : Option Kind) (x : Name) (s r : Scopes) → assigned_to o x s ≡ Ok r → r ≡ s
+assigned_grows_case : (o : Option NameKind) (x : Name) (s r : Scopes) → assigned_to o x s ≡ Ok r → r ≡ s
 assigned_grows_case None x s r e = absurd (cc)
 assigned_grows_case (Some kind.Definition) x s r e = absurd (cc)
 assigned_grows_case (Some kind.Variable) x s r e = same_scopes e

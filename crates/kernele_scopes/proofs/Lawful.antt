@@ -9,8 +9,8 @@ use Rattle.kernele_scopes.specs.Bindings.{Happening, opens, defines, gets_method
 use Rattle.kernele_scopes.proofs.Past.{split_cons, split_append, IsEven, even_nil, even_append, even_braced, even_defining, even_one}
 use Rattle.kernele_scopes.proofs.Meanings.{named, Fits, fits_script, fits_asked}
 use Rattle.kernele_scopes.proofs.Says.{Says, then_says, then_block, says_nothing, found_says, assigned_says, added_says, bound_says, all_bound_say, with_says, InObject, Gone, in_new_object, new_says, method_block_says, object_says}
-use Rattle.kernele_scopes.specs.declared.naming.Kind.{Kind}
-use Rattle.kernele_scopes.specs.declared.naming.Kind.TheVariants as kind
+use Rattle.kernele_scopes.specs.declared.naming.NameKind.{NameKind}
+use Rattle.kernele_scopes.specs.declared.naming.NameKind.TheVariants as kind
 use Rattle.kernele_scopes.specs.declared.naming.TopName.{TopName}
 use Rattle.kernele_scopes.specs.declared.checking.TheConstants.{MOST_NODES, GREATEST_DEPTH}
 
@@ -131,7 +131,7 @@ mutual
 -- ---- the rules agree with themselves
 
 -- a name means one kind
-means_once : (x : Name) (k j : Kind) (past : List Happening) → Means x k past → Means x j past → k ≡ j
+means_once : (x : Name) (k j : NameKind) (past : List Happening) → Means x k past → Means x j past → k ≡ j
 means_once x k j past one two = at (split_append (named x j) one.0 (named x k ∷ one.1) two.0 two.1 (sym one.3 ∙ two.3))
   where
     last : (d : List Happening) → two.0 ≡ one.0 ++ d → ((named x k ≡ named x j) × (d ≡ [])) ⊎ ((f : List Happening) × (d ≡ named x k ∷ f) × (one.1 ≡ f ++ named x j ∷ two.1)) → k ≡ j
@@ -143,7 +143,7 @@ means_once x k j past one two = at (split_append (named x j) one.0 (named x k �
     at (inr is) = last is.0 is.1 (split_cons (named x k) (named x j) one.1 is.0 two.1 is.2)
 
 -- a name that means something is not unbound
-means_bound : (x : Name) (k : Kind) (past : List Happening) → Means x k past → IsUnbound x past → ⊥
+means_bound : (x : Name) (k : NameKind) (past : List Happening) → Means x k past → IsUnbound x past → ⊥
 means_bound x k past means u = u k means.2 (means.0, means.1, means.3, means.4)
 
 -- nothing is right and wrong

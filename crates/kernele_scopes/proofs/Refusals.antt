@@ -2,7 +2,7 @@
 use Rattle.std.proofs.Common.{◌≡◌, Ok, Err, Result, ap, sym, subst, ◌∙◌}
 use Rattle.kernele_scopes.specs.Scope.{Scopes, Checked, in_turn, entered, in_block, left_for}
 use Rattle.kernele_scopes.specs.Check.{Refuses, Gives}
-use Rattle.kernele_scopes.specs.Parts.{Binding, binding_checked, checked_behind}
+use Rattle.kernele_scopes.specs.Parts.{AddedNames, binding_checked, checked_behind}
 use Rattle.kernele_scopes.specs.declared.checking.CheckFault.{CheckFault}
 use Rattle.kernele_scopes.specs.declared.checking.CheckFault.TheVariants as fault
 
@@ -38,6 +38,6 @@ block_gives (Ok done) inside s after h = ap (left_for s) h
 block_gives (Err f) inside s after h = refuses_in_block f inside s h
 
 -- the same of what stands there behind a binding
-pub behind_gives : (r : Result (Unit {0}) CheckFault) (b : Binding) (body : Scopes → Checked) (s : Scopes) {inner middle : Scopes} (after : Scopes) → inner ≡ entered s → binding_checked b inner ≡ Ok middle → Gives r after (body middle) → Gives r s (in_block (checked_behind b body) s)
+pub behind_gives : (r : Result (Unit {0}) CheckFault) (b : AddedNames) (body : Scopes → Checked) (s : Scopes) {inner middle : Scopes} (after : Scopes) → inner ≡ entered s → binding_checked b inner ≡ Ok middle → Gives r after (body middle) → Gives r s (in_block (checked_behind b body) s)
 behind_gives r b body s after begins bound h =
     block_gives r (checked_behind b body) s after (subst (Gives r after) (sym (ap (λ o. in_turn o body) (ap (binding_checked b) (sym begins) ∙ bound))) h)

@@ -10,8 +10,8 @@ use Rattle.kernele_scopes.specs.Scope.{Scopes, Checked, Refusal, in_turn, in_blo
 use Rattle.kernele_scopes.specs.Bindings.{Happening, opens, closes, defines, gets_method, uses, assigns, left_open, Happened, unbound_noun, unbound_assigned, assigned_definition, defined_twice, method_twice, AreRight, IsFirstFault, following, defining, braced, happens_in}
 use Rattle.kernele_scopes.proofs.Past.{passed, happened_passed, passed_happened, IsEven, following-append, following_braced}
 use Rattle.kernele_scopes.proofs.Meanings.{Meaning, Here, Fits, happened_more, more_happened, happened_last, none_in_new, fits_more, fits_entered, fits_passed, fits_defined}
-use Rattle.kernele_scopes.specs.declared.naming.Kind.{Kind}
-use Rattle.kernele_scopes.specs.declared.naming.Kind.TheVariants as kind
+use Rattle.kernele_scopes.specs.declared.naming.NameKind.{NameKind}
+use Rattle.kernele_scopes.specs.declared.naming.NameKind.TheVariants as kind
 use Rattle.kernele_scopes.specs.declared.naming.TopName.{TopName}
 
 -- all is right, and the scopes that are left are these; or the first fault is told
@@ -70,7 +70,7 @@ says_nothing past s fits = (tt, fits)
 -- ---- names
 
 -- a noun
-found_case : (x : Name) (past : List Happening) (s : Scopes) → Fits past s → (o : Option Kind) → Meaning past x o → Says Fits past (uses x ∷ []) (if is_some o then Ok s else Err (unbound x))
+found_case : (x : Name) (past : List Happening) (s : Scopes) → Fits past s → (o : Option NameKind) → Meaning past x o → Says Fits past (uses x ∷ []) (if is_some o then Ok s else Err (unbound x))
 found_case x past s fits None u = inl (unbound_noun u)
 found_case x past s fits (Some k) means = (((k, means), tt), fits_more (uses x) (λ p. refl) (λ y j e. cc) past s fits)
 
@@ -78,7 +78,7 @@ pub found_says : (x : Name) (past : List Happening) (s : Scopes) → Fits past s
 found_says x past s fits = found_case x past s fits (kind_in s x) (fits.meaning x)
 
 -- a name that is assigned
-assigned_case : (x : Name) (past : List Happening) (s : Scopes) → Fits past s → (o : Option Kind) → Meaning past x o → Says Fits past (assigns x ∷ []) (assigned_to o x s)
+assigned_case : (x : Name) (past : List Happening) (s : Scopes) → Fits past s → (o : Option NameKind) → Meaning past x o → Says Fits past (assigns x ∷ []) (assigned_to o x s)
 assigned_case x past s fits None u = inl (unbound_assigned u)
 assigned_case x past s fits (Some kind.Definition) means = inl (assigned_definition means)
 assigned_case x past s fits (Some kind.Variable) means = ((means, tt), fits_more (assigns x) (λ p. refl) (λ y j e. cc) past s fits)
@@ -87,7 +87,7 @@ pub assigned_says : (x : Name) (past : List Happening) (s : Scopes) → Fits pas
 assigned_says x past s fits = assigned_case x past s fits (kind_in s x) (fits.meaning x)
 
 -- a name that is defined
-added_case : (t : TopName) (past : List Happening) (s : Scopes) → Fits past s → (o : Option Kind) → Here past t.name o → Says Fits past (defines t ∷ []) (if is_some o then Err (duplicate_name t.name) else Ok (record s { own = with_name t s.own }))
+added_case : (t : TopName) (past : List Happening) (s : Scopes) → Fits past s → (o : Option NameKind) → Here past t.name o → Says Fits past (defines t ∷ []) (if is_some o then Err (duplicate_name t.name) else Ok (record s { own = with_name t s.own }))
 added_case t past s fits None absent = ((absent, tt), fits_defined t past s fits)
 added_case t past s fits (Some k) at = inl (defined_twice at)
 

@@ -9,8 +9,8 @@ use Rattle.kernele.specs.declared.tree.Pattern.{Pattern}
 use Rattle.kernele.specs.declared.tree.Pattern.TheVariants as pattern
 use Rattle.kernele_scopes.specs.Scope.{Scopes, Checked, unbound, assign_to_def, duplicate_name, too_deep, too_long, in_turn, kind_in, found, assigned, assigned_to, added, bound, all_bound, with_name, left_for, entered, in_block, checked_with, checked_taking, Signature, has_signature, new_method, checked, checked_all, checked_methods, defined_name, variable_name, name_of, names_of_all, own_names, own_names_in}
 use Rattle.kernele_scopes.specs.Free.{defines, occurring, free, free_in, free_of, FreeNamesAreInScope, UnboundNamesAreFree}
-use Rattle.kernele_scopes.specs.declared.naming.Kind.{Kind}
-use Rattle.kernele_scopes.specs.declared.naming.Kind.TheVariants as kind
+use Rattle.kernele_scopes.specs.declared.naming.NameKind.{NameKind}
+use Rattle.kernele_scopes.specs.declared.naming.NameKind.TheVariants as kind
 use Rattle.kernele_scopes.specs.declared.naming.TopName.{TopName}
 
 -- a name is in one of the scopes
@@ -114,7 +114,7 @@ found_tells : (s : Scopes) (bs : List TopName) (x : Name) (q : Scopes) → Knows
 found_tells s bs x q k = found_case s bs x q k (is_some (kind_in q x)) (is_some (kind_in s x)) (defines bs x) refl (k x)
 
 -- so is a name that is assigned
-assigned_case : (s : Scopes) (bs : List TopName) (x : Name) (q : Scopes) → Knows s bs q → (o : Option Kind) → Tells s bs (occurring x bs) (if is_some o then Ok q else Err (unbound x)) → Tells s bs (occurring x bs) (assigned_to o x q)
+assigned_case : (s : Scopes) (bs : List TopName) (x : Name) (q : Scopes) → Knows s bs q → (o : Option NameKind) → Tells s bs (occurring x bs) (if is_some o then Ok q else Err (unbound x)) → Tells s bs (occurring x bs) (assigned_to o x q)
 assigned_case s bs x q k None h = h
 assigned_case s bs x q k (Some kind.Definition) h = tt
 assigned_case s bs x q k (Some kind.Variable) h = h
@@ -135,7 +135,7 @@ defines_last (b ∷ bs) t x = passed (bytes_eq b.name x) (defines bs x) (bytes_e
     passed true there last e = refl
     passed false there last e = e
 
-knows_case : (here defined was : Bool) (k : Kind) (own around : Option Kind) → is_some (option_or own around) ≡ (if defined then true else was)
+knows_case : (here defined was : Bool) (k : NameKind) (own around : Option NameKind) → is_some (option_or own around) ≡ (if defined then true else was)
     → is_some (option_or (if here then Some k else own) around) ≡ (if (if defined then true else here) then true else was)
 knows_case true true was k own around e = refl
 knows_case true false was k own around e = refl

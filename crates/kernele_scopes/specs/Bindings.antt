@@ -2,8 +2,8 @@
 use Rattle.std.specs.Prelude.{◌≡◌, ◌⊎◌, ◌↔◌, ℕ, zero, suc, ◌<◌, ◌≤◌, List, [], ◌∷◌, ◌++◌, map, length, Option, Some, None, Err, IsOk}
 use Rattle.kernele.specs.Tree.{Name, Tree, null_tree, bool_tree, int_tree, text_tree, noun, define, variable, assign, call, list_tree, same_tree, define_list, hide, if_tree, while_tree, for_tree, try_tree, throw_tree, object_tree, escape_tree, send, when_tree, when_catch_tree, new_promise, break_ref, state_ref, Trees, none, and_then, Methods, no_methods, and_method}
 use Rattle.kernele_scopes.specs.Scope.{Scopes, script_scopes, asked_scopes, checked_program, Refusal, unbound, assign_to_def, duplicate_name, too_deep, too_long, Signature, nodes_in, depth_in, defined_name, variable_name, name_of, names_of_all, definitions}
-use Rattle.kernele_scopes.specs.declared.naming.Kind.{Kind}
-use Rattle.kernele_scopes.specs.declared.naming.Kind.TheVariants as kind
+use Rattle.kernele_scopes.specs.declared.naming.NameKind.{NameKind}
+use Rattle.kernele_scopes.specs.declared.naming.NameKind.TheVariants as kind
 use Rattle.kernele_scopes.specs.declared.naming.TopName.{TopName}
 use Rattle.kernele_scopes.specs.declared.checking.TheConstants.{MOST_NODES, GREATEST_DEPTH}
 
@@ -94,15 +94,15 @@ Happened h inside past = (since before : List Happening) × (past ≡ since ++ h
 
 -- no definition of a name is in scope: if there were any, their braces have closed
 abbrev pub IsUnbound : Name → List Happening → Type 0
-IsUnbound x past = (kind : Kind) (inside : ℕ) → ¬ Happened (defines (record { name = x; kind = kind })) inside past
+IsUnbound x past = (kind : NameKind) (inside : ℕ) → ¬ Happened (defines (record { name = x; kind = kind })) inside past
 
 -- a name means the last of its definitions that are in scope, which hides those before it, and that one is of this kind
-abbrev pub Means : Name → Kind → List Happening → Type 0
+abbrev pub Means : Name → NameKind → List Happening → Type 0
 Means x kind past = (since before : List Happening) × (inside : ℕ) × (past ≡ since ++ defines (record { name = x; kind = kind }) ∷ before) × (left_open since ≡ Some inside) × IsUnbound x since
 
 -- the innermost scope has a definition of a name
 abbrev pub IsDefinedHere : Name → List Happening → Type 0
-IsDefinedHere x past = (kind : Kind) × Happened (defines (record { name = x; kind = kind })) 0 past
+IsDefinedHere x past = (kind : NameKind) × Happened (defines (record { name = x; kind = kind })) 0 past
 
 -- what is right behind this past: a noun that means something, a name that is assigned and means a variable, a name that its scope does
 -- not have yet, though one around it may, and a method that is not found like another of its object
@@ -111,7 +111,7 @@ IsRight past opens = Unit {0}
 IsRight past closes = Unit {0}
 IsRight past (defines t) = ¬ IsDefinedHere t.name past
 IsRight past (gets_method m) = ¬ Happened (gets_method m) 0 past
-IsRight past (uses x) = (kind : Kind) × Means x kind past
+IsRight past (uses x) = (kind : NameKind) × Means x kind past
 IsRight past (assigns x) = Means x kind.Variable past
 
 -- what is wrong behind this past, and why

@@ -8,7 +8,7 @@ use Rattle.kernele.specs.Tree.{Name}
 use Rattle.kernele_scopes.specs.Scope.{Names, Scopes, Signature, kind_in, unbound, assign_to_def, duplicate_name, too_deep, too_long, Checked}
 use Rattle.kernele_scopes.specs.Words.{refusal_text, no_memory}
 use Rattle.kernele.specs.declared.tree.Method.{Method}
-use Rattle.kernele_scopes.specs.declared.naming.Kind.{Kind}
+use Rattle.kernele_scopes.specs.declared.naming.NameKind.{NameKind}
 use Rattle.kernele_scopes.specs.declared.checking.CheckFault.{CheckFault}
 use Rattle.kernele_scopes.specs.declared.checking.CheckFault.TheVariants as fault
 use Rattle.kernele_scopes.specs.declared.checking.Outer.{Outer}
@@ -26,7 +26,7 @@ fault_text fault.TooLong = refusal_text too_long
 fault_text fault.Memory = no_memory
 
 -- the names of a map
-abbrev pub names_of : BTreeMap Name Kind → Names
+abbrev pub names_of : BTreeMap Name NameKind → Names
 names_of names = λ x. get (slice_cmp nat_cmp) names x
 
 -- what a program finds in scope

@@ -6,37 +6,37 @@ use Rattle.kernele.specs.declared.tree.Pattern.{Pattern}
 use Rattle.kernele_scopes.specs.Scope.{Scopes, Checked, in_turn, in_block, found, assigned, added, bound, all_bound, checked, checked_all, checked_methods, defined_name, variable_name, name_of, names_of_all, own_names, own_names_in, nodes, nodes_in, nodes_of, depth, depth_in, depth_of}
 use Rattle.kernele_scopes.specs.Free.{free, free_in, free_of, occurring}
 use Rattle.kernele_scopes.specs.declared.naming.TopName.{TopName}
-use Rattle.kernele_scopes.specs.declared.parts.Binding.{Binding as CodeBinding}
-use Rattle.kernele_scopes.specs.declared.parts.Binding.TheVariants as binding
-use Rattle.kernele_scopes.specs.declared.parts.Part.{Part as CodePart}
-use Rattle.kernele_scopes.specs.declared.parts.Part.TheVariants as code
+use Rattle.kernele_scopes.specs.declared.parts.AddedNames.{AddedNames as CodeBinding}
+use Rattle.kernele_scopes.specs.declared.parts.AddedNames.TheVariants as binding
+use Rattle.kernele_scopes.specs.declared.parts.NamePart.{NamePart as CodePart}
+use Rattle.kernele_scopes.specs.declared.parts.NamePart.TheVariants as code
 
 -- the names that a part adds to a scope
-pub data Binding : Type 0 where
-  no_names_bound : Binding
-  definition_bound : (x : Name) → Binding
-  variable_bound : (x : Name) → Binding
-  pattern_bound : (p : Pattern) → Binding
-  patterns_bound : (ps : List Pattern) → Binding
+pub data AddedNames : Type 0 where
+  no_names_bound : AddedNames
+  definition_bound : (x : Name) → AddedNames
+  variable_bound : (x : Name) → AddedNames
+  pattern_bound : (p : Pattern) → AddedNames
+  patterns_bound : (ps : List Pattern) → AddedNames
 
 -- what a part of a construct does to names
-pub data Part : Type 0 where
-  nothing : Part
+pub data NamePart : Type 0 where
+  nothing : NamePart
   -- a noun is looked up
-  look_up : (x : Name) → Part
+  look_up : (x : Name) → NamePart
   -- a name stands in the text before the expression behind which it is assigned
-  target : (x : Name) → (e : Tree) → Part
+  target : (x : Name) → (e : Tree) → NamePart
   -- a name is assigned
-  assign_to : (x : Name) → Part
-  evaluate : (e : Tree) → Part
-  evaluate_all : (es : Trees) → Part
-  bind : (b : Binding) → Part
+  assign_to : (x : Name) → NamePart
+  evaluate : (e : Tree) → NamePart
+  evaluate_all : (es : Trees) → NamePart
+  bind : (b : AddedNames) → NamePart
   -- a block has a scope of its own, which begins with some names
-  block : (b : Binding) → (body : Trees) → Part
-  methods : (ms : Methods) → Part
+  block : (b : AddedNames) → (body : Trees) → NamePart
+  methods : (ms : Methods) → NamePart
 
 -- what a construct does to names first, then, and last
-abbrev pub first : Tree → Part
+abbrev pub first : Tree → NamePart
 first null_tree = nothing
 first (bool_tree b) = nothing
 first (int_tree z) = nothing
@@ -64,7 +64,7 @@ first new_promise = nothing
 first (break_ref e) = evaluate e
 first (state_ref e) = evaluate e
 
-abbrev pub second : Tree → Part
+abbrev pub second : Tree → NamePart
 second null_tree = nothing
 second (bool_tree b) = nothing
 second (int_tree z) = nothing
@@ -92,21 +92,21 @@ second new_promise = nothing
 second (break_ref e) = nothing
 second (state_ref e) = nothing
 
-abbrev pub third : Tree → Part
+abbrev pub third : Tree → NamePart
 third (assign x e) = assign_to x
 third (if_tree c one other) = block no_names_bound other
 third (when_catch_tree e body p handler) = block (pattern_bound p) handler
 third _ = nothing
 
 -- what the code's parts stand for
-abbrev pub binding_in : CodeBinding → Binding
+abbrev pub binding_in : CodeBinding → AddedNames
 binding_in binding.Nothing = no_names_bound
 binding_in (binding.Definition x) = definition_bound x.now
 binding_in (binding.Variable x) = variable_bound x.now
 binding_in (binding.Pattern p) = pattern_bound p.now
 binding_in (binding.Patterns ps) = patterns_bound ps.now
 
-abbrev pub part_in : CodePart → Part
+abbrev pub part_in : CodePart → NamePart
 part_in code.Nothing = nothing
 part_in (code.Noun x) = look_up x.now
 part_in (code.Target x e) = target x.now (tree_of e.now)
@@ -118,7 +118,7 @@ part_in (code.Block b body) = block (binding_in b) (trees_of body.now)
 part_in (code.Methods ms) = methods (methods_of ms.now)
 
 -- the scopes with the names of a binding
-abbrev pub binding_checked : Binding → Scopes → Checked
+abbrev pub binding_checked : AddedNames → Scopes → Checked
 binding_checked no_names_bound s = Ok s
 binding_checked (definition_bound x) s = added (defined_name x) s
 binding_checked (variable_bound x) s = added (variable_name x) s
@@ -126,11 +126,11 @@ binding_checked (pattern_bound p) s = bound p s
 binding_checked (patterns_bound ps) s = all_bound ps s
 
 -- what stands behind a binding, in its scope
-abbrev pub checked_behind : Binding → (Scopes → Checked) → Scopes → Checked
+abbrev pub checked_behind : AddedNames → (Scopes → Checked) → Scopes → Checked
 checked_behind b next s = in_turn (binding_checked b s) next
 
 -- the check of a part
-abbrev pub part_checked : Part → Scopes → Checked
+abbrev pub part_checked : NamePart → Scopes → Checked
 part_checked nothing s = Ok s
 part_checked (look_up x) s = found x s
 part_checked (target x e) s = Ok s
@@ -142,7 +142,7 @@ part_checked (block b body) s = in_block (checked_behind b (checked_all body)) s
 part_checked (methods ms) s = checked_methods [] ms s
 
 -- the names of a binding
-abbrev pub binding_names : Binding → List TopName
+abbrev pub binding_names : AddedNames → List TopName
 binding_names no_names_bound = []
 binding_names (definition_bound x) = defined_name x ∷ []
 binding_names (variable_bound x) = variable_name x ∷ []
@@ -150,7 +150,7 @@ binding_names (pattern_bound p) = name_of p
 binding_names (patterns_bound ps) = names_of_all ps
 
 -- the names that a part defines behind it
-abbrev pub part_names : Part → List TopName
+abbrev pub part_names : NamePart → List TopName
 part_names nothing = []
 part_names (look_up x) = []
 part_names (target x e) = []
@@ -162,7 +162,7 @@ part_names (block b body) = []
 part_names (methods ms) = []
 
 -- the free occurrences of names in a part, where these names are defined inside the object
-abbrev pub part_free : Part → List TopName → List Name
+abbrev pub part_free : NamePart → List TopName → List Name
 part_free nothing bs = []
 part_free (look_up x) bs = occurring x bs
 part_free (target x e) bs = occurring x (bs ++ own_names e)
@@ -174,7 +174,7 @@ part_free (block b body) bs = free_in body (bs ++ binding_names b)
 part_free (methods ms) bs = free_of ms bs
 
 -- how many nodes a part has
-abbrev pub part_nodes : Part → ℕ
+abbrev pub part_nodes : NamePart → ℕ
 part_nodes nothing = 0
 part_nodes (look_up x) = 0
 part_nodes (target x e) = 0
@@ -186,7 +186,7 @@ part_nodes (block b body) = nodes_in body
 part_nodes (methods ms) = nodes_of ms
 
 -- how deep a part is
-abbrev pub part_depth : Part → ℕ
+abbrev pub part_depth : NamePart → ℕ
 part_depth nothing = 0
 part_depth (look_up x) = 0
 part_depth (target x e) = 0

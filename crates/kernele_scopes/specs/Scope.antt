@@ -5,8 +5,8 @@ use Rattle.std.specs.Str.{bytes_eq}
 use Rattle.kernele.specs.Tree.{Name, Tree, null_tree, bool_tree, int_tree, text_tree, noun, define, variable, assign, call, list_tree, same_tree, define_list, hide, if_tree, while_tree, for_tree, try_tree, throw_tree, object_tree, escape_tree, send, when_tree, when_catch_tree, new_promise, break_ref, state_ref, Trees, none, and_then, Methods, no_methods, and_method}
 use Rattle.kernele.specs.declared.tree.Pattern.{Pattern}
 use Rattle.kernele.specs.declared.tree.Pattern.TheVariants as pattern
-use Rattle.kernele_scopes.specs.declared.naming.Kind.{Kind}
-use Rattle.kernele_scopes.specs.declared.naming.Kind.TheVariants as kind
+use Rattle.kernele_scopes.specs.declared.naming.NameKind.{NameKind}
+use Rattle.kernele_scopes.specs.declared.naming.NameKind.TheVariants as kind
 use Rattle.kernele_scopes.specs.declared.naming.TopName.{TopName}
 use Rattle.kernele_scopes.specs.declared.checking.TheConstants.{MOST_NODES, GREATEST_DEPTH}
 
@@ -88,7 +88,7 @@ abbrev mutual
 
 -- the names of a scope: which kind a name is, if the scope has it
 abbrev pub Names : Type 0
-Names = Name → Option Kind
+Names = Name → Option NameKind
 
 -- it has no name
 abbrev pub no_names : Names
@@ -151,14 +151,14 @@ in_turn (Ok s) next = next s
 in_turn (Err refusal) next = Err refusal
 
 -- which kind a name is, where it is in one of the scopes; an inner name hides an outer one
-abbrev pub kind_in : Scopes → Name → Option Kind
+abbrev pub kind_in : Scopes → Name → Option NameKind
 kind_in s x = option_or (s.own x) (s.around x)
 
 -- a noun is in one of the scopes
 abbrev pub found : Name → Scopes → Checked
 found x s = if is_some (kind_in s x) then Ok s else Err (unbound x)
 
-abbrev pub assigned_to : Option Kind → Name → Scopes → Checked
+abbrev pub assigned_to : Option NameKind → Name → Scopes → Checked
 assigned_to None x s = Err (unbound x)
 assigned_to (Some kind.Definition) x s = Err (assign_to_def x)
 assigned_to (Some kind.Variable) x s = Ok s

@@ -8,8 +8,8 @@ ghost use Rattle.kernele_scopes.specs.Parts.{part_checked, part_in, binding_chec
 ghost use Rattle.kernele_scopes.specs.declared.checking.CheckFault.TheVariants.{Memory};
 
 use crate::count::{Room, behind_all};
-use crate::naming::{Kind, TopName};
-use crate::parts::{Binding, Part, first_part, second_part, third_part};
+use crate::naming::{NameKind, TopName};
+use crate::parts::{AddedNames, NamePart, first_part, second_part, third_part};
 use ids::text::Text;
 use kernele::tree::{Expr, Method, Pattern, Program};
 use std::alloc::{AllocError, AllocFailed, Global};
@@ -86,12 +86,12 @@ impl<T: Drop> From<AllocFailed<T>> for CheckFault {
 }
 
 /// The names of earlier vats, which are no variables.
-fn names_of_vats(alloc: Global, earlier: &[Text]) -> Result<BTreeMap<Text, Kind>, AllocError>
+fn names_of_vats(alloc: Global, earlier: &[Text]) -> Result<BTreeMap<Text, NameKind>, AllocError>
     ensures { IfOk result (λ names. names_of names ≡ names_in (definitions earlier.now)) }
 {
     let mut names = BTreeMap::new(alloc);
     for name in earlier {
-        names.insert(name.share()?, Kind::Definition)?;
+        names.insert(name.share()?, NameKind::Definition)?;
     }
     Ok(names)
 }
@@ -100,9 +100,9 @@ fn names_of_vats(alloc: Global, earlier: &[Text]) -> Result<BTreeMap<Text, Kind>
 #[derive(Drop)]
 pub struct Outer {
     /// Those of its own scope, which it may not define again.
-    own: BTreeMap<Text, Kind>,
+    own: BTreeMap<Text, NameKind>,
     /// Those of the scope around it, which it may hide.
-    around: BTreeMap<Text, Kind>,
+    around: BTreeMap<Text, NameKind>,
 }
 
 impl Outer {
@@ -160,7 +160,7 @@ enum Around<'a> {
     Program(&'a Outer),
     /// The scope is a block's: the definitions of the scope where the block stands, and what lies
     /// around those.
-    Block(&'a BTreeMap<Text, Kind>, &'a Around<'a>),
+    Block(&'a BTreeMap<Text, NameKind>, &'a Around<'a>),
 }
 
 /// The scopes where an expression stands.
@@ -169,12 +169,12 @@ struct Scopes<'a> {
     alloc: Global,
     around: Around<'a>,
     /// The names that the innermost scope has defined so far.
-    defined: BTreeMap<Text, Kind>,
+    defined: BTreeMap<Text, NameKind>,
 }
 
 impl<'a> Around<'a> {
     /// What a name is in the scope with these definitions.
-    fn kind_in_own(&self, defined: &BTreeMap<Text, Kind>, name: &Text) -> Option<Kind>
+    fn kind_in_own(&self, defined: &BTreeMap<Text, NameKind>, name: &Text) -> Option<NameKind>
         ensures { result ≡ (scopes_with self.now (names_of defined.now)).own name.now }
     {
         let found = defined.get(name).copied();
@@ -185,7 +185,7 @@ impl<'a> Around<'a> {
     }
 
     /// What a name is: one of an inner scope hides one of an outer scope.
-    fn kind(&self, defined: &BTreeMap<Text, Kind>, name: &Text) -> Option<Kind>
+    fn kind(&self, defined: &BTreeMap<Text, NameKind>, name: &Text) -> Option<NameKind>
         ensures { result ≡ kind_in (scopes_with self.now (names_of defined.now)) name.now }
     {
         if let Some(kind) = self.kind_in_own(defined, name) {
@@ -200,14 +200,14 @@ impl<'a> Around<'a> {
 
 impl<'a> Scopes<'a> {
     /// What a name is in the innermost scope.
-    fn kind_in_own(&self, name: &Text) -> Option<Kind>
+    fn kind_in_own(&self, name: &Text) -> Option<NameKind>
         ensures { result ≡ (scopes_in self.now).own name.now }
     {
         self.around.kind_in_own(&self.defined, name)
     }
 
     /// What a name is: one of an inner scope hides one of an outer scope.
-    fn kind(&self, name: &Text) -> Option<Kind>
+    fn kind(&self, name: &Text) -> Option<NameKind>
         ensures { result ≡ kind_in (scopes_in self.now) name.now }
     {
         self.around.kind(&self.defined, name)
@@ -225,7 +225,7 @@ impl<'a> Scopes<'a> {
     }
 
     /// Adds a name to the innermost scope, which must not have it.
-    fn add(&mut self, name: &Text, kind: Kind) -> Result<(), CheckFault>
+    fn add(&mut self, name: &Text, kind: NameKind) -> Result<(), CheckFault>
         ensures { Gives result (scopes_in self.new) (added (record { name = name.now; kind = kind }) (scopes_in self.old)) }
     {
         if self.kind_in_own(name).is_some() {
@@ -256,24 +256,28 @@ fn check_expr(e: &Expr, scopes: &mut Scopes) -> Result<(), CheckFault>
 }
 
 #[cycle(check)]
-fn check_part(part: Part<'_>, scopes: &mut Scopes) -> Result<(), CheckFault>
+fn check_part(part: NamePart<'_>, scopes: &mut Scopes) -> Result<(), CheckFault>
     ensures { Gives result (scopes_in scopes.new) (part_checked (part_in part.entry) (scopes_in scopes.old)) }
 {
     match part {
-        Part::Nothing | Part::Target(_, _) => Ok(()),
-        Part::Noun(name) => check_noun(name, scopes),
-        Part::Assign(name) => check_assigned(name, scopes),
-        Part::Evaluate(e) => check_expr(e, scopes),
-        Part::EvaluateAll(trees) => check_all(trees, scopes),
-        Part::Bind(binding) => check_binding(binding, scopes),
-        Part::Block(binding, body) => check_block(binding, body, scopes),
-        Part::Methods(methods) => check_methods(methods, scopes),
+        NamePart::Nothing | NamePart::Target(_, _) => Ok(()),
+        NamePart::Noun(name) => check_noun(name, scopes),
+        NamePart::Assign(name) => check_assigned(name, scopes),
+        NamePart::Evaluate(e) => check_expr(e, scopes),
+        NamePart::EvaluateAll(trees) => check_all(trees, scopes),
+        NamePart::Bind(binding) => check_binding(binding, scopes),
+        NamePart::Block(binding, body) => check_block(binding, body, scopes),
+        NamePart::Methods(methods) => check_methods(methods, scopes),
     }
 }
 
 /// Checks a block in a scope of its own, which begins with some names.
 #[cycle(check)]
-fn check_block(binding: Binding<'_>, body: &[Expr], scopes: &Scopes<'_>) -> Result<(), CheckFault>
+fn check_block(
+    binding: AddedNames<'_>,
+    body: &[Expr],
+    scopes: &Scopes<'_>,
+) -> Result<(), CheckFault>
     ensures { Gives result (scopes_in scopes.now) (in_block (checked_behind (binding_in binding.entry) (checked_all (trees_of body.now))) (scopes_in scopes.now)) }
 {
     let mut inner = scopes.enter();
@@ -290,7 +294,11 @@ fn check_methods(methods: &[Method], scopes: &Scopes<'_>) -> Result<(), CheckFau
     while index < methods.len() {
         let method = &methods[index];
         check_is_new(&methods[..index], method)?;
-        check_block(Binding::Patterns(&method.parameters), &method.body, scopes)?;
+        check_block(
+            AddedNames::Patterns(&method.parameters),
+            &method.body,
+            scopes,
+        )?;
         index += 1;
     }
     Ok(())
@@ -310,8 +318,8 @@ fn check_assigned(name: &Text, scopes: &mut Scopes) -> Result<(), CheckFault>
     ensures { Gives result (scopes_in scopes.new) (assigned name.now (scopes_in scopes.old)) }
 {
     match scopes.kind(name) {
-        Some(Kind::Variable) => Ok(()),
-        Some(Kind::Definition) => Err(CheckFault::AssignToDef(name.share()?)),
+        Some(NameKind::Variable) => Ok(()),
+        Some(NameKind::Definition) => Err(CheckFault::AssignToDef(name.share()?)),
         None => Err(CheckFault::Unbound(name.share()?)),
     }
 }
@@ -336,15 +344,15 @@ fn is_found_as(one: &Method, other: &Method) -> bool
     one.verb == other.verb && one.parameters.len() == other.parameters.len()
 }
 
-fn check_binding(binding: Binding<'_>, scopes: &mut Scopes) -> Result<(), CheckFault>
+fn check_binding(binding: AddedNames<'_>, scopes: &mut Scopes) -> Result<(), CheckFault>
     ensures { Gives result (scopes_in scopes.new) (binding_checked (binding_in binding.entry) (scopes_in scopes.old)) }
 {
     match binding {
-        Binding::Nothing => Ok(()),
-        Binding::Definition(name) => scopes.add(name, Kind::Definition),
-        Binding::Variable(name) => scopes.add(name, Kind::Variable),
-        Binding::Pattern(pattern) => check_pattern(pattern, scopes),
-        Binding::Patterns(patterns) => check_patterns(patterns, scopes),
+        AddedNames::Nothing => Ok(()),
+        AddedNames::Definition(name) => scopes.add(name, NameKind::Definition),
+        AddedNames::Variable(name) => scopes.add(name, NameKind::Variable),
+        AddedNames::Pattern(pattern) => check_pattern(pattern, scopes),
+        AddedNames::Patterns(patterns) => check_patterns(patterns, scopes),
     }
 }
 
@@ -361,7 +369,7 @@ fn check_pattern(pattern: &Pattern, scopes: &mut Scopes) -> Result<(), CheckFaul
     ensures { Gives result (scopes_in scopes.new) (bound pattern.now (scopes_in scopes.old)) }
 {
     match pattern {
-        Pattern::Name(name) => scopes.add(name, Kind::Definition),
+        Pattern::Name(name) => scopes.add(name, NameKind::Definition),
         Pattern::Ignore => Ok(()),
     }
 }

@@ -5,7 +5,7 @@ ghost use Rattle.kernele_scopes.specs.Scope.{nodes, nodes_in, nodes_of, depth, d
 ghost use Rattle.kernele_scopes.specs.Room.{room_behind};
 ghost use Rattle.kernele_scopes.specs.Parts.{part_in, part_nodes, part_depth};
 
-use crate::parts::{Part, first_part, second_part, third_part};
+use crate::parts::{NamePart, first_part, second_part, third_part};
 use kernele::tree::{Expr, Method};
 
 /// What is left of the limits behind some trees.
@@ -42,16 +42,19 @@ fn behind_tree(e: &Expr, levels: u32, room: Option<Room>) -> Option<Room>
 
 /// The same of a part of a tree.
 #[cycle(count)]
-fn behind_part(part: Part<'_>, levels: u32, room: Option<Room>) -> Option<Room>
+fn behind_part(part: NamePart<'_>, levels: u32, room: Option<Room>) -> Option<Room>
     ensures { result ≡ room_behind levels room (part_nodes (part_in part.entry)) (part_depth (part_in part.entry)) }
 {
     match part {
-        Part::Evaluate(e) => behind_tree(e, levels, room),
-        Part::EvaluateAll(trees) => behind_all(trees, levels, room),
-        Part::Block(_, body) => behind_all(body, levels, room),
-        Part::Methods(methods) => behind_methods(methods, levels, room),
-        Part::Nothing | Part::Noun(_) | Part::Target(_, _) | Part::Assign(_) | Part::Bind(_) =>
-            room,
+        NamePart::Evaluate(e) => behind_tree(e, levels, room),
+        NamePart::EvaluateAll(trees) => behind_all(trees, levels, room),
+        NamePart::Block(_, body) => behind_all(body, levels, room),
+        NamePart::Methods(methods) => behind_methods(methods, levels, room),
+        NamePart::Nothing
+        | NamePart::Noun(_)
+        | NamePart::Target(_, _)
+        | NamePart::Assign(_)
+        | NamePart::Bind(_) => room,
     }
 }
 

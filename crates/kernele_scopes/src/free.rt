@@ -7,7 +7,7 @@ ghost use Rattle.kernele_scopes.specs.Found.{with_all_new};
 ghost use Rattle.kernele_scopes.specs.Parts.{part_in, part_names, part_free, binding_in, binding_names};
 
 use crate::naming::{TopName, add_binding, add_bound, add_names};
-use crate::parts::{Binding, Part, first_part, second_part, third_part};
+use crate::parts::{AddedNames, NamePart, first_part, second_part, third_part};
 use ids::text::Text;
 use kernele::tree::{Expr, Method, Pattern};
 use std::alloc::{AllocError, Global};
@@ -39,8 +39,13 @@ pub fn captured_by_when(
 {
     let mut inside = Vec::new(alloc);
     let mut found = Vec::new(alloc);
-    find_in_block(Binding::Nothing, body, &mut inside, &mut found)?;
-    find_in_block(Binding::Pattern(pattern), handler, &mut inside, &mut found)?;
+    find_in_block(AddedNames::Nothing, body, &mut inside, &mut found)?;
+    find_in_block(
+        AddedNames::Pattern(pattern),
+        handler,
+        &mut inside,
+        &mut found,
+    )?;
     Ok(found)
 }
 
@@ -58,7 +63,7 @@ fn find_in(e: &Expr, inside: &mut Vec<TopName>, found: &mut Vec<Text>) -> Result
 /// The same of a part of an expression.
 #[cycle(free)]
 fn find_in_part(
-    part: Part<'_>,
+    part: NamePart<'_>,
     inside: &mut Vec<TopName>,
     found: &mut Vec<Text>,
 ) -> Result<(), AllocError>
@@ -66,14 +71,14 @@ fn find_in_part(
     ensures found { OnOk result (found.new.items ≡ with_all_new found.old.items (part_free (part_in part.entry) inside.old.items)) }
 {
     match part {
-        Part::Nothing | Part::Assign(_) => Ok(()),
-        Part::Noun(name) => add_occurring(name, inside, found),
-        Part::Target(name, value) => find_target(name, value, inside, found),
-        Part::Evaluate(e) => find_in(e, inside, found),
-        Part::EvaluateAll(trees) => find_in_all(trees, inside, found),
-        Part::Bind(binding) => add_binding(binding, inside),
-        Part::Block(binding, body) => find_in_block(binding, body, inside, found),
-        Part::Methods(methods) => find_in_methods(methods, inside, found),
+        NamePart::Nothing | NamePart::Assign(_) => Ok(()),
+        NamePart::Noun(name) => add_occurring(name, inside, found),
+        NamePart::Target(name, value) => find_target(name, value, inside, found),
+        NamePart::Evaluate(e) => find_in(e, inside, found),
+        NamePart::EvaluateAll(trees) => find_in_all(trees, inside, found),
+        NamePart::Bind(binding) => add_binding(binding, inside),
+        NamePart::Block(binding, body) => find_in_block(binding, body, inside, found),
+        NamePart::Methods(methods) => find_in_methods(methods, inside, found),
     }
 }
 
@@ -104,7 +109,7 @@ fn find_in_methods(
     ensures found { OnOk result (found.new.items ≡ with_all_new found.old.items (free_of (methods_of methods.now) inside.old.items)) }
 {
     for method in methods {
-        let parameters = Binding::Patterns(&method.parameters);
+        let parameters = AddedNames::Patterns(&method.parameters);
         find_in_block(parameters, &method.body, inside, found)?;
     }
     Ok(())
@@ -113,7 +118,7 @@ fn find_in_methods(
 /// The same of a block that begins with some names; what it defines ends with it.
 #[cycle(free)]
 fn find_in_block(
-    binding: Binding<'_>,
+    binding: AddedNames<'_>,
     body: &[Expr],
     inside: &mut Vec<TopName>,
     found: &mut Vec<Text>,

@@ -10,5 +10,5 @@ mod theorems;
 
 pub use checking::{CheckFault, Outer, check};
 pub use free::{captured_by_when, captured_names, checks_free_names};
-pub use naming::{Kind, TopName, adds_own_names, top_names};
+pub use naming::{NameKind, TopName, adds_own_names, top_names};
 pub use theorems::{limits_are_numbers, scopes_are_lawful};

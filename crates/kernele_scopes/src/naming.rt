@@ -4,14 +4,14 @@ ghost use Rattle.kernele.specs.View.{tree_of, trees_of, program_of};
 ghost use Rattle.kernele_scopes.specs.Scope.{own_names, own_names_in, name_of, names_of_all, AddsOwnNames};
 ghost use Rattle.kernele_scopes.specs.Parts.{part_in, part_names, binding_in, binding_names};
 
-use crate::parts::{Binding, Part, first_part, second_part, third_part};
+use crate::parts::{AddedNames, NamePart, first_part, second_part, third_part};
 use ids::text::Text;
 use kernele::tree::{Expr, Pattern, Program};
 use std::alloc::{AllocError, Global};
 
 /// What a name in scope is.
 #[derive(Clone, Copy)]
-pub enum Kind {
+pub enum NameKind {
     /// What it stands for stays the same.
     Definition,
     /// It may be assigned.
@@ -22,7 +22,7 @@ pub enum Kind {
 #[derive(Drop)]
 pub struct TopName {
     pub name: Text,
-    pub kind: Kind,
+    pub kind: NameKind,
 }
 
 /// The names that a program defines in its own scope, in the order of their definitions.
@@ -54,32 +54,35 @@ pub(crate) fn add_names(e: &Expr, names: &mut Vec<TopName>) -> Result<(), AllocE
 }
 
 #[cycle(names)]
-fn add_part_names(part: Part<'_>, names: &mut Vec<TopName>) -> Result<(), AllocError>
+fn add_part_names(part: NamePart<'_>, names: &mut Vec<TopName>) -> Result<(), AllocError>
     ensures { OnOk result (names.new.items ≡ names.old.items ++ part_names (part_in part.entry)) }
 {
     match part {
-        Part::Evaluate(e) => add_names(e, names),
-        Part::EvaluateAll(trees) => add_all_names(trees, names),
-        Part::Bind(binding) => add_binding(binding, names),
-        Part::Nothing
-        | Part::Noun(_)
-        | Part::Target(_, _)
-        | Part::Assign(_)
-        | Part::Block(_, _)
-        | Part::Methods(_) => Ok(()),
+        NamePart::Evaluate(e) => add_names(e, names),
+        NamePart::EvaluateAll(trees) => add_all_names(trees, names),
+        NamePart::Bind(binding) => add_binding(binding, names),
+        NamePart::Nothing
+        | NamePart::Noun(_)
+        | NamePart::Target(_, _)
+        | NamePart::Assign(_)
+        | NamePart::Block(_, _)
+        | NamePart::Methods(_) => Ok(()),
     }
 }
 
 /// Adds the names of a binding.
-pub(crate) fn add_binding(binding: Binding<'_>, names: &mut Vec<TopName>) -> Result<(), AllocError>
+pub(crate) fn add_binding(
+    binding: AddedNames<'_>,
+    names: &mut Vec<TopName>,
+) -> Result<(), AllocError>
     ensures { OnOk result (names.new.items ≡ names.old.items ++ binding_names (binding_in binding.entry)) }
 {
     match binding {
-        Binding::Nothing => Ok(()),
-        Binding::Definition(name) => add_name(name, Kind::Definition, names),
-        Binding::Variable(name) => add_name(name, Kind::Variable, names),
-        Binding::Pattern(pattern) => add_bound(pattern, names),
-        Binding::Patterns(patterns) => add_all_bound(patterns, names),
+        AddedNames::Nothing => Ok(()),
+        AddedNames::Definition(name) => add_name(name, NameKind::Definition, names),
+        AddedNames::Variable(name) => add_name(name, NameKind::Variable, names),
+        AddedNames::Pattern(pattern) => add_bound(pattern, names),
+        AddedNames::Patterns(patterns) => add_all_bound(patterns, names),
     }
 }
 
@@ -96,12 +99,12 @@ pub(crate) fn add_bound(pattern: &Pattern, names: &mut Vec<TopName>) -> Result<(
     ensures { OnOk result (names.new.items ≡ names.old.items ++ name_of pattern.now) }
 {
     match pattern {
-        Pattern::Name(name) => add_name(name, Kind::Definition, names),
+        Pattern::Name(name) => add_name(name, NameKind::Definition, names),
         Pattern::Ignore => Ok(()),
     }
 }
 
-fn add_name(name: &Text, kind: Kind, names: &mut Vec<TopName>) -> Result<(), AllocError>
+fn add_name(name: &Text, kind: NameKind, names: &mut Vec<TopName>) -> Result<(), AllocError>
     ensures { OnOk result (names.new.items ≡ names.old.items ++ record { name = name.now; kind = kind } ∷ []) }
 {
     let name = name.share()?;

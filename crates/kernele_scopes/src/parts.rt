@@ -8,7 +8,7 @@ use kernele::tree::{Expr, Method, Pattern};
 
 /// The names that a part adds to a scope.
 #[derive(Clone, Copy)]
-pub(crate) enum Binding<'a> {
+pub(crate) enum AddedNames<'a> {
     Nothing,
     Definition(&'a Text),
     Variable(&'a Text),
@@ -18,7 +18,7 @@ pub(crate) enum Binding<'a> {
 
 /// What a part of a construct does to names.
 #[derive(Clone, Copy)]
-pub(crate) enum Part<'a> {
+pub(crate) enum NamePart<'a> {
     Nothing,
     /// A noun is looked up.
     Noun(&'a Text),
@@ -28,22 +28,22 @@ pub(crate) enum Part<'a> {
     Assign(&'a Text),
     Evaluate(&'a Expr),
     EvaluateAll(&'a [Expr]),
-    Bind(Binding<'a>),
+    Bind(AddedNames<'a>),
     /// A block has a scope of its own, which begins with some names.
-    Block(Binding<'a>, &'a [Expr]),
+    Block(AddedNames<'a>, &'a [Expr]),
     Methods(&'a [Method]),
 }
 
 /// What a construct does to names first.
-pub(crate) fn first_part(e: &Expr) -> Part<'_>
+pub(crate) fn first_part(e: &Expr) -> NamePart<'_>
     ensures { part_in result ≡ first (tree_of e.now) }
 {
     match e {
         Expr::Null | Expr::Bool(_) | Expr::Int(_) | Expr::Text(_) | Expr::NewPromise => {
-            Part::Nothing
+            NamePart::Nothing
         }
-        Expr::Noun(name) => Part::Noun(name),
-        Expr::Assign(name, value) => Part::Target(name, value),
+        Expr::Noun(name) => NamePart::Noun(name),
+        Expr::Assign(name, value) => NamePart::Target(name, value),
         Expr::Def(_, e)
         | Expr::Var(_, e)
         | Expr::DefList(_, e)
@@ -57,32 +57,32 @@ pub(crate) fn first_part(e: &Expr) -> Part<'_>
         | Expr::When(e, _)
         | Expr::WhenCatch(e, _, _, _)
         | Expr::BreakRef(e)
-        | Expr::StateRef(e) => Part::Evaluate(e),
-        Expr::List(items) => Part::EvaluateAll(items),
-        Expr::Hide(body) | Expr::Try(body, _, _) => Part::Block(Binding::Nothing, body),
-        Expr::Object(pattern, _) => Part::Bind(Binding::Pattern(pattern)),
-        Expr::Escape(name, body) => Part::Block(Binding::Definition(name), body),
+        | Expr::StateRef(e) => NamePart::Evaluate(e),
+        Expr::List(items) => NamePart::EvaluateAll(items),
+        Expr::Hide(body) | Expr::Try(body, _, _) => NamePart::Block(AddedNames::Nothing, body),
+        Expr::Object(pattern, _) => NamePart::Bind(AddedNames::Pattern(pattern)),
+        Expr::Escape(name, body) => NamePart::Block(AddedNames::Definition(name), body),
     }
 }
 
 /// What it does to names then.
-pub(crate) fn second_part(e: &Expr) -> Part<'_>
+pub(crate) fn second_part(e: &Expr) -> NamePart<'_>
     ensures { part_in result ≡ second (tree_of e.now) }
 {
     match e {
-        Expr::Def(pattern, _) => Part::Bind(Binding::Pattern(pattern)),
-        Expr::Var(name, _) => Part::Bind(Binding::Variable(name)),
-        Expr::DefList(patterns, _) => Part::Bind(Binding::Patterns(patterns)),
-        Expr::Assign(_, e) | Expr::Same(_, e) => Part::Evaluate(e),
-        Expr::Call(_, _, args) | Expr::Send(_, _, args) => Part::EvaluateAll(args),
+        Expr::Def(pattern, _) => NamePart::Bind(AddedNames::Pattern(pattern)),
+        Expr::Var(name, _) => NamePart::Bind(AddedNames::Variable(name)),
+        Expr::DefList(patterns, _) => NamePart::Bind(AddedNames::Patterns(patterns)),
+        Expr::Assign(_, e) | Expr::Same(_, e) => NamePart::Evaluate(e),
+        Expr::Call(_, _, args) | Expr::Send(_, _, args) => NamePart::EvaluateAll(args),
         Expr::If(_, body, _)
         | Expr::While(_, body)
         | Expr::When(_, body)
-        | Expr::WhenCatch(_, body, _, _) => Part::Block(Binding::Nothing, body),
+        | Expr::WhenCatch(_, body, _, _) => NamePart::Block(AddedNames::Nothing, body),
         Expr::For(pattern, _, body) | Expr::Try(_, pattern, body) => {
-            Part::Block(Binding::Pattern(pattern), body)
+            NamePart::Block(AddedNames::Pattern(pattern), body)
         }
-        Expr::Object(_, methods) => Part::Methods(methods),
+        Expr::Object(_, methods) => NamePart::Methods(methods),
         Expr::Null
         | Expr::Bool(_)
         | Expr::Int(_)
@@ -94,19 +94,19 @@ pub(crate) fn second_part(e: &Expr) -> Part<'_>
         | Expr::Escape(_, _)
         | Expr::NewPromise
         | Expr::BreakRef(_)
-        | Expr::StateRef(_) => Part::Nothing,
+        | Expr::StateRef(_) => NamePart::Nothing,
     }
 }
 
 /// What it does to names last.
-pub(crate) fn third_part(e: &Expr) -> Part<'_>
+pub(crate) fn third_part(e: &Expr) -> NamePart<'_>
     ensures { part_in result ≡ third (tree_of e.now) }
 {
     match e {
-        Expr::Assign(name, _) => Part::Assign(name),
-        Expr::If(_, _, body) => Part::Block(Binding::Nothing, body),
+        Expr::Assign(name, _) => NamePart::Assign(name),
+        Expr::If(_, _, body) => NamePart::Block(AddedNames::Nothing, body),
         Expr::WhenCatch(_, _, pattern, handler) => {
-            Part::Block(Binding::Pattern(pattern), handler)
+            NamePart::Block(AddedNames::Pattern(pattern), handler)
         }
         Expr::Null
         | Expr::Bool(_)
@@ -130,6 +130,6 @@ pub(crate) fn third_part(e: &Expr) -> Part<'_>
         | Expr::When(_, _)
         | Expr::NewPromise
         | Expr::BreakRef(_)
-        | Expr::StateRef(_) => Part::Nothing,
+        | Expr::StateRef(_) => NamePart::Nothing,
     }
 }

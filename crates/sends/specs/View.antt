@@ -3,7 +3,7 @@ use Rattle.std.specs.Prelude.{◌+◌}
 use Rattle.heap.specs.Drafts.{Counts}
 use Rattle.sends.specs.Making.{Refusal, problem, turn_too_large, Making, refused, makes, Published, Sent}
 use Rattle.values.specs.View.{val_of, vals_of}
-use Rattle.sends.specs.declared.publishing.Resolved.{Resolved as Out}
+use Rattle.sends.specs.declared.publishing.Resolution.{Resolution as Out}
 use Rattle.sends.specs.declared.sending.Sending.{Sending}
 use Rattle.sends.specs.declared.refusing.Refusal.{Refusal as Why}
 use Rattle.sends.specs.declared.refusing.Refusal.TheVariants as why

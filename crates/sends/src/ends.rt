@@ -15,11 +15,11 @@ use values::value::Value;
 
 /// What a vat under a turn knows promises resolved to.
 #[derive(Drop)]
-struct Known<'a> {
+struct KnownResolutions<'a> {
     draft: &'a Draft,
 }
 
-impl<'a> Resolve for Known<'a> {
+impl<'a> Resolve for KnownResolutions<'a> {
     ghost use Rattle.heap.specs.Drafts.{draft_of};
     ghost use Rattle.sends.specs.Playing.{views_in};
 
@@ -50,7 +50,7 @@ pub fn end_of(alloc: Global, draft: &mut Draft, value: &Value) -> Result<Value, 
     ensures turn { IsSameTurn draft.old draft.new }
 {
     let mut through = Vec::new(alloc);
-    let end = ends::end_of(&Known { draft: &*draft }, value, &mut through)?;
+    let end = ends::end_of(&KnownResolutions { draft: &*draft }, value, &mut through)?;
     look_at(draft, through.as_slice())?;
     Ok(end)
 }
@@ -61,7 +61,7 @@ pub fn settle(alloc: Global, draft: &mut Draft, value: &Value) -> Result<Option<
     ensures turn { IsSameTurn draft.old draft.new }
 {
     let mut through = Vec::new(alloc);
-    let form = settling::settle(&Known { draft: &*draft }, value, &mut through)?;
+    let form = settling::settle(&KnownResolutions { draft: &*draft }, value, &mut through)?;
     look_at(draft, through.as_slice())?;
     Ok(form)
 }

@@ -21,7 +21,7 @@ use values::value::{Answer, Value};
 /// What is published: a value, the fences with which its references leave, and the reference that it settles to where its
 /// promise was entered.
 #[derive(Drop)]
-pub struct Resolved {
+pub struct Resolution {
     pub value: Value,
     pub fences: Carried,
     pub joined: Option<Reference>,
@@ -33,13 +33,13 @@ pub fn publish(
     draft: &mut Draft,
     promise: PromId,
     value: Value,
-) -> Result<Resolved, AllocError>
+) -> Result<Resolution, AllocError>
     ensures did { IfOk result (λ b. Did (publishing promise (val_of value)) draft.old (published_of b) draft.new) }
     ensures turn { IsSameTurn draft.old draft.new }
 {
     let fences = leave(alloc, draft, &value)?;
     let joined = enter_if_come(alloc, draft, promise, &value)?;
-    Ok(Resolved {
+    Ok(Resolution {
         value,
         fences,
         joined,
@@ -52,7 +52,7 @@ fn use_resolver(
     draft: &mut Draft,
     promise: PromId,
     value: Value,
-) -> Result<Making<Resolved>, AllocError>
+) -> Result<Making<Resolution>, AllocError>
     ensures did { IfOk result (λ m. Did (used promise (val_of value)) draft.old (making_of published_of m) draft.new) }
     ensures turn { IsSameTurn draft.old draft.new }
 {
@@ -65,7 +65,7 @@ fn use_resolver(
 }
 
 /// A resolver was used before.
-fn no_use(alloc: Global) -> Result<Making<Resolved>, AllocError>
+fn no_use(alloc: Global) -> Result<Making<Resolution>, AllocError>
     ensures { IfOk result (λ m. making_of published_of m ≡ already_used) }
 {
     Ok(Making::Refused(refuse(alloc, "already resolved")?))
@@ -77,7 +77,7 @@ pub fn resolve(
     draft: &mut Draft,
     promise: PromId,
     value: &Value,
-) -> Result<Making<Resolved>, AllocError>
+) -> Result<Making<Resolution>, AllocError>
     ensures did { IfOk result (λ m. Did (resolving promise (val_of value.now)) draft.old (making_of published_of m) draft.new) }
     ensures turn { IsSameTurn draft.old draft.new }
 {
@@ -94,7 +94,7 @@ pub fn smash(
     draft: &mut Draft,
     promise: PromId,
     problem: &Value,
-) -> Result<Making<Resolved>, AllocError>
+) -> Result<Making<Resolution>, AllocError>
     ensures did { IfOk result (λ m. Did (smashing promise (val_of problem.now)) draft.old (making_of published_of m) draft.new) }
     ensures turn { IsSameTurn draft.old draft.new }
 {
@@ -108,7 +108,7 @@ fn smash_by(
     draft: &mut Draft,
     promise: PromId,
     end: Value,
-) -> Result<Making<Resolved>, AllocError>
+) -> Result<Making<Resolution>, AllocError>
     ensures did { IfOk result (λ m. Did (smashed_by promise (val_of end) (text_in (val_of end))) draft.old (making_of published_of m) draft.new) }
     ensures turn { IsSameTurn draft.old draft.new }
 {
@@ -131,7 +131,7 @@ pub fn end_with(
     draft: &mut Draft,
     promise: PromId,
     told: Answer,
-) -> Result<Resolved, AllocError>
+) -> Result<Resolution, AllocError>
     ensures did { IfOk result (λ b. Did (ending promise (reply_of told)) draft.old (published_of b) draft.new) }
     ensures turn { IsSameTurn draft.old draft.new }
 {

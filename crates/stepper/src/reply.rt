@@ -24,7 +24,7 @@ use stepper_printing::quoting::put_quoted;
 use stepper_printing::value::put_value;
 use stepper_questions::unanswered::Unanswered;
 use stepper_streams::outlet::Outlet;
-use turn_deliveries::outcome::Ended;
+use turn_deliveries::outcome::TurnEnd;
 use values::value::Value;
 
 /// What is kept of the replies.
@@ -75,18 +75,18 @@ fn put_reason<W: Write>(words: &str, reason: &str, out: &mut Outlet<W>)
     put_quoted(reason, out);
 }
 
-fn put_end<W: Write>(ended: &Ended, out: &mut Outlet<W>)
+fn put_end<W: Write>(ended: &TurnEnd, out: &mut Outlet<W>)
     ensures { Tells W.contents out.old out.new (told_text (told_of ended.now)) }
 {
     match ended {
-        Ended::Value(value) => put_given(value, out),
-        Ended::Problem(problem) => put_reason("problem ", problem.as_str(), out),
-        Ended::Abandoned(why) => put_reason("abandoned ", why.reason(), out),
+        TurnEnd::Value(value) => put_given(value, out),
+        TurnEnd::Problem(problem) => put_reason("problem ", problem.as_str(), out),
+        TurnEnd::Abandoned(why) => put_reason("abandoned ", why.reason(), out),
     }
 }
 
 /// A turn was run.
-pub(crate) fn put_turned<W: Write>(event: EventName, ended: &Ended, out: &mut Outlet<W>)
+pub(crate) fn put_turned<W: Write>(event: EventName, ended: &TurnEnd, out: &mut Outlet<W>)
     ensures { Tells W.contents out.old out.new (turned_text event (told_of ended.now)) }
 {
     out.put("ok ");

@@ -15,7 +15,7 @@ use Rattle.eval_rules.specs.Rules.{Items}
 use Rattle.eval_rules.specs.declared.working.Working.{Working}
 use Rattle.turn_deliveries.specs.Outcomes.{told_of, written_by}
 use Rattle.turn_deliveries.specs.Turn.{Found, Led, Told, knowing, call_met, call_meeting, when_met, telling, telling_at, ending_at, outcome_by}
-use Rattle.turn_deliveries.specs.declared.outcome.Ended.{Ended}
+use Rattle.turn_deliveries.specs.declared.outcome.TurnEnd.{TurnEnd}
 use Rattle.turn_deliveries.specs.declared.outcome.Outcome.{Outcome}
 
 -- a script is evaluated in the vat's own scope
@@ -45,7 +45,7 @@ abbrev pub RunsTo : Outcome → PromId → End → At → Type 0
 RunsTo x p o b = Leaves x p (telling o b) (telling_at o b)
 
 -- what is left of a turn that stands here and ended so
-pub record IsLeft (w : Working) (e : Ended) (x : Outcome) : Type 0 where
+pub record IsLeft (w : Working) (e : TurnEnd) (x : Outcome) : Type 0 where
   pub touched : touched_in x.footprint ≡ touched_of w.draft
   pub written : writes_in x.footprint ≡ writes_of w.draft
   pub found : FoundCells x.footprint (began_with w.draft)
@@ -54,9 +54,9 @@ pub record IsLeft (w : Working) (e : Ended) (x : Outcome) : Type 0 where
   pub out : x.out ≡ w.out
 
 -- what is left of this turn is what one leaves that told this at this place
-abbrev pub LeavesAtEnd : Working → Ended → PromId → Told → At → Type 0
+abbrev pub LeavesAtEnd : Working → TurnEnd → PromId → Told → At → Type 0
 LeavesAtEnd w e p t b = (x : Outcome) → IsLeft w e x → Leaves x p t b
 
 -- the same of a turn whose delivery ended so at this place
-abbrev pub RunsToEnd : Working → Ended → PromId → End → At → Type 0
+abbrev pub RunsToEnd : Working → TurnEnd → PromId → End → At → Type 0
 RunsToEnd w e p o b = LeavesAtEnd w e p (telling o b) (telling_at o b)

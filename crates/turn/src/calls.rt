@@ -16,7 +16,7 @@ ghost use Rattle.turn_deliveries.specs.Turn.{Led, call_coming, call_meeting, cal
 use eval::eval::eval_items;
 use eval_objects::calls::{call_target, enter_method};
 use eval_rules::end::Stop;
-use eval_rules::entry::Entry;
+use eval_rules::entry::MethodEntry;
 use eval_rules::working::Working;
 use post::call::Call;
 use sends::coming::{receive, receive_all};
@@ -80,10 +80,10 @@ fn share_all(alloc: Global, values: &[Value]) -> Result<Vec<Value>, AllocError>
 }
 
 /// Runs a method's block. The turn ends with it, so there is no caller to come back to.
-fn run_entry(w: &mut Working, entry: Entry, into: &mut Value) -> Result<(), Stop>
+fn run_entry(w: &mut Working, entry: MethodEntry, into: &mut Value) -> Result<(), Stop>
     ensures { OnEnd result into.new w.new (Items 1 null (trees_of_codes entry.body.value.items) (inside (locals_after (nouns_of (captured_in entry.captured)) entry.nouns.items) (at w.old))) }
 {
-    let Entry {
+    let MethodEntry {
         captured,
         nouns,
         body,

@@ -29,7 +29,7 @@ use post::message::{Message, Sent};
 use std::alloc::{AllocError, Global};
 use std::sync::Arc;
 use turn_deliveries::lead::Lead;
-use turn_deliveries::outcome::{Ended, Outcome};
+use turn_deliveries::outcome::{Outcome, TurnEnd};
 use values::value::Value;
 
 /// Runs the turn of a message at a vat in this state, which itself stays as it is. The message's target leads there. Fails only for
@@ -60,7 +60,7 @@ pub fn deliver(
 }
 
 /// Runs a delivery, and ends its turn.
-fn run_to_end(w: &mut Working, sent: &Sent, lead: &Lead) -> Result<Ended, AllocError>
+fn run_to_end(w: &mut Working, sent: &Sent, lead: &Lead) -> Result<TurnEnd, AllocError>
     requires own { (at w.old).own_scope ≡ is_opening (delivery_of sent.now.delivery) }
     requires bare { (at w.old).nouns ≡ [] }
     ensures { IfOk result (λ e. (o : End) × (b : At) × Does (delivery_of sent.now.delivery) (found_of lead.now) (at w.old) o b × RunsToEnd w.new e sent.now.result o b) }

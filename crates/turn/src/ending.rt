@@ -18,13 +18,13 @@ use ids::names::PromId;
 use ids::text::Text;
 use post::published::Published;
 use sends::ends::settle;
-use sends::publishing::{Resolved, end_with};
+use sends::publishing::{Resolution, end_with};
 use std::alloc::{AllocError, Global};
-use turn_deliveries::outcome::Ended;
+use turn_deliveries::outcome::TurnEnd;
 use values::value::{Answer, Value};
 
 /// Ends a turn whose delivery gave this value: its settled form is published.
-pub(crate) fn end(w: &mut Working, promise: PromId, value: &Value) -> Result<Ended, AllocError>
+pub(crate) fn end(w: &mut Working, promise: PromId, value: &Value) -> Result<TurnEnd, AllocError>
     ensures { IfOk result (λ e. RunsToEnd w.new e promise (value_end (val_of value.now)) (at w.old)) }
 {
     let form = settle(w.alloc, &mut w.draft, value)?;
@@ -43,7 +43,7 @@ fn answer_of(alloc: Global, form: Option<Value>) -> Result<Answer, AllocError>
 }
 
 /// Ends a turn whose delivery was halted: its result is broken. Of an abandoned turn nothing else is kept.
-pub(crate) fn lose(w: &mut Working, promise: PromId) -> Result<Ended, AllocError>
+pub(crate) fn lose(w: &mut Working, promise: PromId) -> Result<TurnEnd, AllocError>
     ensures { IfOk result (λ e. RunsToEnd w.new e promise (halt (halt_of w.old.halt)) (at w.old)) }
 {
     match &w.halt {
@@ -64,7 +64,7 @@ pub(crate) fn lose(w: &mut Working, promise: PromId) -> Result<Ended, AllocError
 }
 
 /// Ends a turn that tells this.
-fn tell(w: &mut Working, promise: PromId, told: Answer) -> Result<Ended, AllocError>
+fn tell(w: &mut Working, promise: PromId, told: Answer) -> Result<TurnEnd, AllocError>
     ensures { IfOk result (λ e. LeavesAtEnd w.new e promise (told_reply (reply_of told)) (at w.old)) }
 {
     let ended = ended_by(&told)?;
@@ -75,12 +75,12 @@ fn tell(w: &mut Working, promise: PromId, told: Answer) -> Result<Ended, AllocEr
 }
 
 /// What is told in a reply.
-fn ended_by(told: &Answer) -> Result<Ended, AllocError>
+fn ended_by(told: &Answer) -> Result<TurnEnd, AllocError>
     ensures { IfOk result (λ e. told_of e ≡ told_reply (reply_of told.now)) }
 {
     match told {
-        Answer::Gives(value) => Ok(Ended::Value(value.share()?)),
-        Answer::Throws(problem) => Ok(Ended::Problem(problem.share()?)),
+        Answer::Gives(value) => Ok(TurnEnd::Value(value.share()?)),
+        Answer::Throws(problem) => Ok(TurnEnd::Problem(problem.share()?)),
     }
 }
 
@@ -109,7 +109,7 @@ fn publish(
     alloc: Global,
     out: &mut Outbox,
     promise: PromId,
-    resolved: Resolved,
+    resolved: Resolution,
 ) -> Result<(), AllocError>
     ensures published { OnOk result (outbox_of out.new ≡ published_out promise (published_of resolved) (outbox_of out.old)) }
     ensures promises { out.new.promises ≡ out.old.promises }
@@ -120,11 +120,11 @@ fn publish(
 }
 
 /// Ends an abandoned turn: its result is broken by the reason.
-fn abandon(w: &mut Working, promise: PromId, why: Abandon) -> Result<Ended, AllocError>
+fn abandon(w: &mut Working, promise: PromId, why: Abandon) -> Result<TurnEnd, AllocError>
     ensures { IfOk result (λ e. LeavesAtEnd w.new e promise (lost (cause_of why)) (at w.old)) }
 {
     w.out = broken_result(w.alloc, promise, why)?;
-    Ok(Ended::Abandoned(why))
+    Ok(TurnEnd::Abandoned(why))
 }
 
 /// What an abandoned turn publishes and notes.
@@ -134,7 +134,7 @@ fn broken_result(alloc: Global, promise: PromId, why: Abandon) -> Result<Outbox,
     let reason = Text::new(alloc, why.reason())?;
     let mut out = Outbox::new(alloc);
     note(&mut out, Note::Comment(reason.share()?))?;
-    let resolved = Resolved {
+    let resolved = Resolution {
         value: Value::Broken(reason),
         fences: Carried::empty(alloc),
         joined: None,

@@ -11,12 +11,12 @@ use Rattle.eval_rules.specs.OutboxView.{outbox_of}
 use Rattle.eval_rules.specs.View.{cause_of}
 use Rattle.turn_deliveries.specs.Turn.{Found, Told, told, lost, Outcome, Delivers}
 use Rattle.turn_deliveries.specs.Touched.{delivery_touched, delivery_written}
-use Rattle.turn_deliveries.specs.declared.outcome.Ended.{Ended}
-use Rattle.turn_deliveries.specs.declared.outcome.Ended.TheVariants as code-ended
+use Rattle.turn_deliveries.specs.declared.outcome.TurnEnd.{TurnEnd}
+use Rattle.turn_deliveries.specs.declared.outcome.TurnEnd.TheVariants as code-ended
 use Rattle.turn_deliveries.specs.declared.outcome.Outcome as code-outcome
 use Rattle.turn_deliveries.specs.declared.lead.Lead.{Lead}
 
-abbrev pub told_of : Ended → Told
+abbrev pub told_of : TurnEnd → Told
 told_of (code-ended.Value v) = told (gives (val_of v))
 told_of (code-ended.Problem problem) = told (throws problem)
 told_of (code-ended.Abandoned why) = lost (cause_of why)

@@ -11,7 +11,7 @@ use values::value::Value;
 
 /// How a turn ended.
 #[derive(Drop)]
-pub enum Ended {
+pub enum TurnEnd {
     /// Its value, settled.
     Value(Value),
     /// A problem that nothing caught.
@@ -24,7 +24,7 @@ pub enum Ended {
 pub struct Outcome {
     /// What it found in each cell of the vat that it touched, and what it wrote there.
     pub footprint: Footprint,
-    pub ended: Ended,
+    pub ended: TurnEnd,
     /// The steps left.
     pub steps: u32,
     /// The messages that it made, what promises it published, its own result among them, and notes for the log. An abandoned turn
@@ -32,15 +32,15 @@ pub struct Outcome {
     pub out: Outbox,
 }
 
-impl Ended {
+impl TurnEnd {
     /// The same end, whose value or problem is shared. Fails only for want of memory.
-    pub fn share(&self) -> Result<Ended, AllocError>
+    pub fn share(&self) -> Result<TurnEnd, AllocError>
         ensures { IfOk result (λ e. told_of e ≡ told_of self.now) }
     {
         match self {
-            Ended::Value(value) => Ok(Ended::Value(value.share()?)),
-            Ended::Problem(problem) => Ok(Ended::Problem(problem.share()?)),
-            Ended::Abandoned(why) => Ok(Ended::Abandoned(*why)),
+            TurnEnd::Value(value) => Ok(TurnEnd::Value(value.share()?)),
+            TurnEnd::Problem(problem) => Ok(TurnEnd::Problem(problem.share()?)),
+            TurnEnd::Abandoned(why) => Ok(TurnEnd::Abandoned(*why)),
         }
     }
 }

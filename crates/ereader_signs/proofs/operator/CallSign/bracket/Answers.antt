@@ -1,5 +1,5 @@
 use Rattle.std.proofs.Common.{rules}
-use Rattle.ereader_signs.proofs.operator.Link.bracket.Goals as goal
+use Rattle.ereader_signs.proofs.operator.CallSign.bracket.Goals as goal
 
 pub returns-in-Index : goal.returns-in-Index
 returns-in-Index c = search rules
