@@ -1,5 +1,5 @@
 -- How a method is found by how many arguments there are, and a name at hand.
-use Rattle.std.specs.Prelude.{◌≡◌, ℕ, Option, Some, List, length, ◌×◌}
+use Rattle.std.specs.Prelude.{◌≡◌, ℕ, Option, Some, List, length}
 use Rattle.kernele.specs.Tree.{Name}
 use Rattle.code.specs.declared.code.MethodCode.{MethodCode}
 use Rattle.values.specs.declared.value.Value.{Value}
