@@ -1,7 +1,8 @@
 // Entries are listed with those that they followed.
 ghost use Rattle.std.specs.Prelude.{◌≡◌, true, OnOk};
+ghost use Rattle.std.specs.List.{AllByRecursion};
 ghost use Rattle.ids.specs.declared.names.EventName.{EventName};
-ghost use Rattle.journal_links.specs.Followers.{may_follow, Follows};
+ghost use Rattle.journal_links.specs.Followers.{may_follow, Follows, IsLetGo};
 ghost use Rattle.journal.specs.Items.{lasts_of};
 
 use crate::entry::{Entry, Touched};
@@ -28,7 +29,8 @@ pub fn list_follower(
 
 /// Lets go who followed these entries. It takes no memory.
 pub fn let_go(followers: &mut Followers, entries: &[Entry])
-    ensures { (e f : EventName) → may_follow followers.old e f ≡ true → may_follow followers.new e f ≡ true }
+    ensures gone { AllByRecursion (λ x. IsLetGo followers.new x.event.name) entries.now }
+    ensures kept { (e f : EventName) → may_follow followers.old e f ≡ true → may_follow followers.new e f ≡ true }
 {
     for entry in entries {
         followers.let_go(entry.event.name);

@@ -1,5 +1,5 @@
 -- Who followed each event.
-use Rattle.std.specs.Prelude.{◌≡◌, ℕ, ◌<◌, ◌==◌, Bool, true, List, [], Option, Some, None, length, slice_get}
+use Rattle.std.specs.Prelude.{◌≡◌, ℕ, ◌<◌, ◌==◌, Bool, true, List, [], Option, Some, None, IfSome, length, slice_get}
 use Rattle.std.specs.List.{list_any, AllByRecursion}
 use Rattle.std.specs.Option.{option_map_or}
 use Rattle.std.specs.declared.alloc.Global.{Global}
@@ -24,6 +24,10 @@ is_one es f = list_any (λ e. e.0 == f.0) es
 -- the list of the first event names the second, or there is none that could tell
 abbrev pub may_follow : Followers → EventName → EventName → Bool
 may_follow followers e f = option_map_or (λ es. is_one es f) (followers_of followers e) true
+
+-- nobody is on a list of the followers of an event
+abbrev pub IsLetGo : Followers → EventName → Type 0
+IsLetGo followers e = IfSome (followers_of followers e) (λ es. es ≡ [])
 
 -- a follower of an event can be listed
 abbrev pub HasRoom : Followers → EventName → Type 0

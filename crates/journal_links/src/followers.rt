@@ -1,5 +1,5 @@
 // Who followed each event: touched a cell that it had written last.
-ghost use Rattle.std.specs.Prelude.{◌≡◌, ◌≢◌, ◌==◌, [], true, Some, IfSome, OnOk};
+ghost use Rattle.std.specs.Prelude.{◌≡◌, ◌≢◌, ◌==◌, [], true, Some, OnOk};
 ghost use Rattle.std.specs.Option.{option_map};
 ghost use Rattle.std.specs.List.{list_any};
 ghost use Rattle.ids.specs.declared.names.EventName.{EventName};
@@ -25,7 +25,7 @@ fn list(names: &mut Vec<EventName>, name: EventName) -> Result<(), AllocError>
 }
 
 impl Followers {
-    ghost use Rattle.journal_links.specs.Followers.{followers_of, may_follow, HasRoom};
+    ghost use Rattle.journal_links.specs.Followers.{followers_of, may_follow, IsLetGo, HasRoom};
 
     /// Nobody followed anything.
     pub fn new(alloc: Global) -> Followers
@@ -74,7 +74,7 @@ impl Followers {
     /// Lets go who followed an event. It takes no memory.
     pub fn let_go(&mut self, event: EventName)
         ensures others { (e : EventName) → e.0 ≢ event.0 → followers_of self.new e ≡ followers_of self.old e }
-        ensures gone { IfSome (followers_of self.new event) (λ es. es ≡ []) }
+        ensures gone { IsLetGo self.new event }
         ensures kept { (f : EventName) → may_follow self.old event f ≡ true → may_follow self.new event f ≡ true }
     {
         if let Some(followers) = self.by_name.get_mut(event.0 as usize) {
