@@ -4,7 +4,7 @@ use Rattle.std.specs.List.{AllByRecursion}
 use Rattle.std.proofs.lemmas.List.{map-append, take_more, length-map, length-append}
 use Rattle.ids.specs.declared.names.EventName.{EventName}
 use Rattle.ids.specs.declared.cells.CellKey.{CellKey}
-use Rattle.journal_links.specs.Followers.{may_follow, Follows}
+use Rattle.journal_links.specs.Followers.{may_follow, IsLetGo, Follows}
 use Rattle.journal_links.specs.declared.followers.Followers.{Followers}
 use Rattle.journal_links.proofs.Placing.{Swapped}
 use Rattle.journal_links.proofs.Following.{Keeps, follows_kept, follows_append}
@@ -147,3 +147,10 @@ pub follows_more : (followers : Followers) (e : EventName) (xs : List Touched) (
 follows_more followers e xs i d h before here =
     subst (Follows followers e) (sym (ap lasts_of (take_more xs i d h) ∙ map-append last_of (take i xs) (get_or xs i d ∷ [])))
     (follows_append followers e (lasts_of (take i xs)) (last_of (get_or xs i d)) before here)
+
+-- the list of one entry more was let go
+pub gone_more : (old new : Followers) (xs : List Entry) (i : ℕ) (d : Entry) → i < length xs → ((e : EventName) → IsLetGo old e → IsLetGo new e) → IsLetGo new (get_or xs i d).event.name
+    → AllByRecursion (λ (x : Entry). IsLetGo old x.event.name) (take i xs) → AllByRecursion (λ (x : Entry). IsLetGo new x.event.name) (take (i + 1) xs)
+gone_more old new xs i d h kept here before =
+    subst (AllByRecursion (λ (x : Entry). IsLetGo new x.event.name)) (sym (take_more xs i d h))
+    (all_end _ (take i xs) (get_or xs i d) (all_map _ _ (take i xs) (λ x was. kept x.event.name was) before) here)
