@@ -43,7 +43,7 @@ pub(crate) fn checkout(
 }
 
 /// Lets a ticket that is out go, by its number.
-fn abandon(rt: &impl Abort, book: &mut Book, number: u64) {
+fn abandon(rt: &impl Abort, book: &mut Book, number: u32) {
     assert!(rt; book.abandon(EventName(number)).is_ok());
 }
 

@@ -29,8 +29,8 @@ use Rattle.eval_rules.proofs.Opened.{taking_opened}
 use Rattle.eval_rules.proofs.Doings.{called_works}
 use Rattle.eval_rules.proofs.Steps.{runs_to, args_as}
 use Rattle.eval_rules.proofs.Ejectors.{opened_truncated}
-use Rattle.eval_objects.specs.Direct.{EnteredOrNot, IsEntered}
-use Rattle.eval_objects.specs.declared.direct.Entered.{Entered}
+use Rattle.eval_quick.specs.Direct.{EnteredOrNot, IsEntered}
+use Rattle.eval_quick.specs.declared.direct.Entered.{Entered}
 use Rattle.eval.specs.Leading.{Leads}
 
 -- what a method's block does, where the caller's names come back behind it

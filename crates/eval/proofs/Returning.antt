@@ -12,7 +12,7 @@ use Rattle.eval_rules.proofs.Opened.{ends_opened}
 use Rattle.eval_rules.proofs.Steps.{items_no_more, only_one}
 use Rattle.std.specs.declared.vec.Vec.{Vec}
 use Rattle.std.specs.declared.alloc.Global.{Global}
-use Rattle.eval_objects.specs.Leaves.{Returns, sent}
+use Rattle.eval_quick.specs.Leaves.{Returns, sent}
 use Rattle.eval.specs.Escaping.{IsNewest, Escapes}
 
 -- the innermost Escape stays while a tree is evaluated

@@ -17,7 +17,7 @@ use Rattle.eval_rules.specs.declared.end.Stop.{Stop}
 use Rattle.eval_rules.specs.declared.end.Stop.TheVariants as stop
 use Rattle.eval_rules.specs.declared.working.Working.{Working}
 use Rattle.eval_rules.proofs.Steps.{items_end}
-use Rattle.eval_objects.specs.Leaves.{GoesOn}
+use Rattle.eval_quick.specs.Leaves.{GoesOn}
 use Rattle.eval.specs.Unwanted.{OnSomeEnd}
 
 -- after other values items end alike

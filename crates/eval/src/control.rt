@@ -18,7 +18,7 @@ use crate::eval::{eval, eval_items};
 use code::code::Code;
 use eval_messages::ends::take_end;
 use eval_objects::nouns::match_pattern;
-use eval_objects::quick::{quick_truth, run_settings};
+use eval_quick::quick::{quick_truth, run_settings};
 use eval_rules::blocks::{count_names, enter, keep_names, leave};
 use eval_rules::end::Stop;
 use eval_rules::wanted::{caught, choose, items_of};

@@ -22,7 +22,7 @@ use eval_messages::promises::make_promise;
 use eval_messages::references::give_same;
 use eval_objects::nouns::read_noun;
 use eval_objects::objects::define_object;
-use eval_objects::quick::{noun_at_hand, quick_setting, set};
+use eval_quick::quick::{noun_at_hand, quick_setting, set};
 use eval_rules::end::{Abandon, Stop};
 use eval_rules::halting::abandon;
 use eval_rules::results::{give_list, give_text};

@@ -1,15 +1,10 @@
 mod Methods
-mod Reached
-mod Places
-mod Leaves
-mod Lengthened
-mod Drafted
+pub mod Reached
+pub mod Places
+pub mod Drafted
 mod Ending
-mod Sent
 mod Missing
-mod Staying
-mod OnData
-mod AtHand
+pub mod OnData
 mod Leading
 mod Waiting
 mod Targets

@@ -16,7 +16,7 @@ use Rattle.eval_rules.proofs.Scopes.{length-names_in}
 use Rattle.eval_rules.specs.declared.local.Local.{Local}
 use Rattle.eval_rules.specs.At.{At}
 use Rattle.eval_rules.specs.Rules.{found, top_bind, reached, sought_in}
-use Rattle.eval_objects.specs.Leaves.{StandsAtHand}
+use Rattle.eval_objects.specs.Finding.{StandsAtHand}
 use Rattle.eval_objects.proofs.Reached.{reached_already}
 
 abbrev position : Option ℕ → ℕ

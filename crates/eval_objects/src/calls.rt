@@ -201,7 +201,7 @@ fn replace_captured(
 }
 
 /// A frame with no names: one that a method before left, if there is one.
-pub(crate) fn empty_frame(w: &mut Working) -> Vec<Local>
+pub fn empty_frame(w: &mut Working) -> Vec<Local>
     ensures empty { result.items ≡ [] }
     ensures place { at w.new ≡ at w.old }
 {

@@ -117,7 +117,7 @@ pub(crate) fn seek<'a>(w: &'a Working, name: &Text, place: NounPlace) -> Option<
 
 /// What the name at this position stands for, counted from the oldest: those that were captured come first.
 #[inline(always)]
-pub(crate) fn binding_at<'a>(w: &'a Working, position: usize) -> &'a Binding
+pub fn binding_at<'a>(w: &'a Working, position: usize) -> &'a Binding
     requires { position < length (at w.now).nouns }
     ensures { (x : Name) → newest (frame_at (at w.now)) x ≡ Some position → lookup (at w.now).nouns x ≡ Some (bind_of result.now) }
 {

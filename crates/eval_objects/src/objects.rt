@@ -232,9 +232,7 @@ fn method_entry(
 
 /// What an object captured, shared, if it captured anything.
 #[inline(always)]
-pub(crate) fn share_captured(
-    captured: &Arc<Vec<Noun>>,
-) -> Result<Option<Arc<Vec<Noun>>>, AllocError>
+pub fn share_captured(captured: &Arc<Vec<Noun>>) -> Result<Option<Arc<Vec<Noun>>>, AllocError>
     ensures { IfOk result (λ c. captured_in c ≡ captured.now.value.items) }
 {
     if captured.is_empty() {
@@ -246,7 +244,7 @@ pub(crate) fn share_captured(
 
 /// The method with this verb and so many parameters: among many it is looked up, among few sought.
 #[inline(always)]
-pub(crate) fn find_method<'a>(
+pub fn find_method<'a>(
     object: &'a Plain,
     verb: &Verb,
     count: usize,
@@ -315,11 +313,7 @@ fn method_nouns(
 
 /// Adds what a pattern names.
 #[inline(always)]
-pub(crate) fn name_value(
-    nouns: &mut Vec<Local>,
-    pattern: &Pattern,
-    value: Value,
-) -> Result<(), AllocError>
+pub fn name_value(nouns: &mut Vec<Local>, pattern: &Pattern, value: Value) -> Result<(), AllocError>
     ensures { OnOk result ((ns : Nouns) → locals_after ns nouns.new.items ≡ named pattern.now (val_of value) (locals_after ns nouns.old.items)) }
 {
     match pattern {

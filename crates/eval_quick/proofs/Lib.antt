@@ -1,0 +1,5 @@
+mod Leaves
+mod Staying
+mod Sent
+mod Lengthened
+mod AtHand
