@@ -67,3 +67,9 @@ keys_stay (x ∷ xs) (suc i) d y h e (suc p) = keys_stay xs i d y (omega arith) 
 
 pub keys_after : (y x : Item) (w : State cells) → y.kept ≡ swap_record cells x.kept w → keys_of y ≡ keys_of x
 keys_after y x w h = ap (λ (r : Record cells). map (λ (p : CellKey × _). p.0) r) h ∙ keys-swap x.kept w
+
+-- an entry that is there, whatever is read where there is none
+pub get_there : {A : Type 0} (xs : List A) (i : ℕ) (d x : A) → i < length xs → get_or xs i d ≡ get_or xs i x
+get_there [] i d x h = absurd (omega arith)
+get_there (y ∷ ys) zero d x h = refl
+get_there (y ∷ ys) (suc i) d x h = get_there ys i d x (omega arith)

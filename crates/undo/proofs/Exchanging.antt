@@ -1,5 +1,5 @@
 -- Neighbours of a list change places.
-use Rattle.std.proofs.Common.{◌≡◌, ℕ, zero, suc, ◌+◌, ◌<◌, List, [], ◌∷◌, length, set, get_or, map, refl, ap, ◌∙◌, arith}
+use Rattle.std.proofs.Common.{◌≡◌, ℕ, zero, suc, ◌+◌, ◌<◌, List, [], ◌∷◌, length, set, get_or, take, drop, map, refl, ap, ◌∙◌, arith}
 use Rattle.std.specs.List.{swap}
 use Rattle.journal.specs.Items.{item_of, may_exchange, neighbours, exchanged}
 use Rattle.journal.specs.declared.entry.Entry.{Entry}
@@ -23,3 +23,22 @@ may_at (b ∷ a ∷ xs) zero d e h = refl
 may_at (b ∷ a ∷ xs) (suc n) d e h =
     let i : suc (n + 1) ≡ suc n + 1 = omega arith in
     may_at (a ∷ xs) n d e (omega arith) ∙ ap (λ j. may_exchange (item_of (get_or (a ∷ xs) n d)) (item_of (get_or (b ∷ a ∷ xs) j e))) i
+
+-- neighbours behind the first ones
+turn_suc : {A : Type 0} (k : ℕ) (v : A) (ws : List A) → exchanged (suc k) (v ∷ ws) ≡ v ∷ exchanged k ws
+turn_suc k v [] = refl
+turn_suc k v (w ∷ ws) = refl
+
+pub drop_turned : {A : Type 0} (e p : ℕ) (xs : List A) → drop e (exchanged (e + p) xs) ≡ exchanged p (drop e xs)
+drop_turned zero p xs = let is : 0 + p ≡ p = omega arith in ap (λ n. exchanged n xs) is
+drop_turned (suc e) p [] = refl
+drop_turned (suc e) p (x ∷ xs) =
+    let is : suc e + p ≡ suc (e + p) = omega arith in
+    ap (drop (suc e)) (ap (λ n. exchanged n (x ∷ xs)) is ∙ turn_suc (e + p) x xs) ∙ drop_turned e p xs
+
+pub take_turned : {A : Type 0} (e p : ℕ) (xs : List A) → take e (exchanged (e + p) xs) ≡ take e xs
+take_turned zero p xs = refl
+take_turned (suc e) p [] = refl
+take_turned (suc e) p (x ∷ xs) =
+    let is : suc e + p ≡ suc (e + p) = omega arith in
+    ap (take (suc e)) (ap (λ n. exchanged n (x ∷ xs)) is ∙ turn_suc (e + p) x xs) ∙ ap (λ l. x ∷ l) (take_turned e p xs)

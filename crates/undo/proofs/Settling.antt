@@ -1,6 +1,7 @@
 -- Entries that are settled go to the others that are.
 use Rattle.std.proofs.Common.{◌≡◌, ◌∙◌, ℕ, zero, suc, ◌-◌, ◌≤◌, List, [], ◌∷◌, ◌++◌, length, map, take, drop, refl, sym, ap, ap₂, append_assoc, arith}
 use Rattle.std.proofs.lemmas.List.{map-append, take-append-drop}
+use Rattle.std.specs.List.{AllByRecursion}
 
 pub map_take : {A B : Type 0} (f : A → B) (n : ℕ) (xs : List A) → take n (map f xs) ≡ map f (take n xs)
 map_take f zero xs = refl
@@ -25,3 +26,8 @@ pub all_stay : {A B C : Type 0} (f : A → C) (g : B → C) (old new : List A) (
 all_stay f g old new n xs is =
     ap (λ l. l ++ map g (drop n xs)) (map-append f old new ∙ ap (λ l. map f old ++ l) is) ∙ append_assoc (map f old) (map g (take n xs)) (map g (drop n xs))
     ∙ ap (λ l. map f old ++ l) (sym (map-append g (take n xs) (drop n xs)) ∙ ap (map g) (take-append-drop n xs))
+
+-- what holds of each entry by its item holds of all items
+pub all_mapped : {A B : Type 0} (P : B → Type 0) (f : A → B) (xs : List A) → AllByRecursion (λ (x : A). P (f x)) xs → AllByRecursion P (map f xs)
+all_mapped P f [] h = tt
+all_mapped P f (x ∷ xs) (h, hs) = (h, all_mapped P f xs hs)

@@ -8,16 +8,19 @@ ghost use Rattle.history.specs.Walks.{step_at, walk};
 ghost use Rattle.ids.specs.declared.cells.CellKey.{CellKey};
 ghost use Rattle.eval_rules.specs.OutboxView.{note_of};
 ghost use Rattle.journal_links.specs.Places.{ArePlaces};
+ghost use Rattle.journal_links.specs.Followers.{IsLetGo};
 ghost use Rattle.world_cells.specs.Events.{with_notes};
 ghost use Rattle.world_cells.specs.EventView.{event_of};
-ghost use Rattle.world_cells.specs.View.{is_ready, swaps_of as swaps_in, RisesBy};
+ghost use Rattle.world_cells.specs.View.{RisesBy};
 ghost use Rattle.world_cells.specs.World.{vat_state};
-ghost use Rattle.world_cells.specs.Theory.{cells, state_of_world, kepts_of, all_pass};
+ghost use Rattle.world_cells.specs.Theory.{cells, state_of_world, kepts_of};
 ghost use Rattle.journal.specs.Items.{item_of, is_live, swap_item, entered, keys_at, all_ready, records_at, may_exchange, neighbours, exchanged};
 ghost use Rattle.journal.specs.Links.{AreFollowers, names_of};
 ghost use Rattle.journal.specs.SettledView.{items_in};
+ghost use Rattle.undo.specs.OpenView.{opens};
 
-use crate::records::{add_keys, make_rooms, swap_records};
+use crate::open_entries::OpenEntries;
+use crate::records::{add_keys, make_rooms};
 use eval_rules::outbox::Note;
 use heap::state::VatState;
 use ids::cells::CellKey;
@@ -47,11 +50,11 @@ pub struct Deed {
 pub struct Core {
     world: World,
     settled: Vec<Settled>,
-    entries: Vec<Entry>,
+    entries: OpenEntries,
     places: Places,
     followers: Followers,
-    ghost placed: { ∥ ArePlaces places (names_of (items_in settled.items entries.items)) ∥₁ },
-    ghost followed: { ∥ AreFollowers followers (map item_of entries.items) ∥₁ },
+    ghost placed: { ∥ ArePlaces places (names_of (items_in settled.items (opens entries))) ∥₁ },
+    ghost followed: { ∥ AreFollowers followers (map item_of (opens entries)) ∥₁ },
 }
 
 // By hand, so that what drops one elsewhere calls this and is not proved anew for all that it holds.
@@ -67,19 +70,8 @@ impl Drop for Core {
     }
 }
 
-/// Exchanges the records of an entry with the cells, and marks it. It takes no memory.
-fn swap_one(world: &mut World, entry: &mut Entry, mark: Mark)
-    requires { all_pass (is_ready world.old) (item_of entry.old).kept ≡ true }
-    ensures item { (item_of entry.new, state_of_world world.new) ≡ swap_item (is_live mark) (item_of entry.old) (state_of_world world.old) }
-    ensures ready { is_ready world.new ≡ is_ready world.old }
-    ensures counted { RisesBy (length (item_of entry.old).kept) (swaps_in world.old) (swaps_in world.new) }
-{
-    swap_records(world, &mut entry.records);
-    entry.mark = mark;
-}
-
 impl Core {
-    ghost use Rattle.undo.specs.CoreView.{settled_of, open_of, items_of, state_of, shown, ready_of, swaps_of};
+    ghost use Rattle.undo.specs.CoreView.{settled_of, open_of, items_of, state_of, shown, ready_of, swaps_of, lists_of};
     ghost use Rattle.journal.specs.Journals.{items_of as journal_items};
     ghost use Rattle.undo.specs.Written.{written_at};
 
@@ -93,7 +85,7 @@ impl Core {
         Core {
             world: World::new(alloc),
             settled: Vec::new(alloc),
-            entries: Vec::new(alloc),
+            entries: OpenEntries::new(alloc),
             places: Places::new(alloc),
             followers: Followers::new(alloc),
         }
@@ -120,7 +112,7 @@ impl Core {
     {
         Journal {
             settled: &self.settled,
-            entries: &self.entries,
+            entries: self.entries.as_slice(),
             places: &self.places,
             followers: &self.followers,
         }
@@ -154,7 +146,7 @@ impl Core {
         ensures settled { settled_of self.new ≡ settled_of self.old }
     {
         let place = position - self.settled.len();
-        swap_one(&mut self.world, &mut self.entries[place], mark);
+        self.entries.swap(&mut self.world, place, mark);
     }
 
     /// Makes room for all cells of which the entries at these positions, which are not settled, have records, and makes the states of
@@ -170,7 +162,7 @@ impl Core {
     {
         for position in positions {
             let place = *position - self.settled.len();
-            make_rooms(alloc, &mut self.world, &self.entries[place].records)?;
+            make_rooms(alloc, &mut self.world, &self.entries.at(place).records)?;
         }
         Ok(())
     }
@@ -184,7 +176,7 @@ impl Core {
         let mut keys = Vec::new(alloc);
         for position in positions {
             let place = *position - self.settled.len();
-            add_keys(&mut keys, &self.entries[place].records)?;
+            add_keys(&mut keys, &self.entries.at(place).records)?;
         }
         Ok(keys)
     }
@@ -269,13 +261,13 @@ impl Core {
         ensures counted { swaps_of self.new ≡ swaps_of self.old }
     {
         let place = position - self.settled.len();
-        if !may_exchange(&self.entries[place], &self.entries[place + 1]) {
+        if !may_exchange(self.entries.at(place), self.entries.at(place + 1)) {
             return false;
         }
-        self.entries.swap(place, place + 1);
-        self.places.put(self.entries[place].event.name, position);
+        self.entries.exchange(place);
+        self.places.put(self.entries.at(place).event.name, position);
         self.places
-            .put(self.entries[place + 1].event.name, position + 1);
+            .put(self.entries.at(place + 1).event.name, position + 1);
         true
     }
 
@@ -287,14 +279,14 @@ impl Core {
         ensures shown { shown self.new ≡ shown self.old }
         ensures ok { OnOk result (settled_of self.new ≡ settled_of self.old + count) }
         ensures err { OnErr result (settled_of self.new ≡ settled_of self.old) }
+        ensures unlisted { OnOk result (AllByRecursion (λ i. IsLetGo (lists_of self.new) i.event.name) (take count (open_of self.old))) }
         ensures counted { swaps_of self.new ≡ swaps_of self.old }
     {
-        let mut settled = Settled::of_all(alloc, &self.entries[..count])?;
-        let left = self.entries.len() - count;
-        let_go(&mut self.followers, &self.entries[..count]);
+        let first = &self.entries.as_slice()[..count];
+        let mut settled = Settled::of_all(alloc, first)?;
         self.settled.append(&mut settled)?;
-        self.entries.rotate_left(count);
-        self.entries.truncate(left);
+        let_go(&mut self.followers, first);
+        self.entries.let_go(alloc, count);
         Ok(())
     }
 }

@@ -8,6 +8,7 @@ use Rattle.world_cells.specs.EventView.{event_of}
 use Rattle.world_cells.specs.View.{is_ready}
 use Rattle.world_cells.specs.Theory.{cells, numbered, state_of_world, kept_of, kepts_of, all_pass}
 use Rattle.journal.specs.Journals.{items_in, settled_item}
+use Rattle.undo.specs.OpenView.{opens}
 use Rattle.undo.specs.CoreView.{items_of, shown, state_of}
 use Rattle.journal.specs.Items.{Item, item_of, keys_at, pass, records_at, swap_item}
 use Rattle.journal.specs.declared.entry.Entry.{Entry}
@@ -27,29 +28,29 @@ use Rattle.undo.proofs.undoing.Core.enter.Goals as goal
 pub invariant_of-self-in-Break-branch-3 : goal.invariant_of-self-in-Break-branch-3
 invariant_of-self-in-Break-branch-3 c =
     let b = c.args.self.now in
-    record { placed = placed_same b.places c.make_room.new.self b.settled.items b.entries.items c.make_room.ensures.same b.placed; followed = b.followed }
+    record { placed = placed_same b.places c.make_room.new.self b.settled.items (opens b.entries) c.make_room.ensures.same b.placed; followed = b.followed }
 
 pub invariant_of-self-in-Break-branch-4 : goal.invariant_of-self-in-Break-branch-4
 invariant_of-self-in-Break-branch-4 c =
     let b = c.args.self.now in
     record {
-      placed = placed_same b.places c.make_room.new.self b.settled.items b.entries.items c.make_room.ensures.same b.placed;
-      followed = followed_kept b.followers c.list_follower.new.followers b.entries.items c.list_follower.ensures.kept b.followed;
+      placed = placed_same b.places c.make_room.new.self b.settled.items (opens b.entries) c.make_room.ensures.same b.placed;
+      followed = followed_kept b.followers c.list_follower.new.followers (opens b.entries) c.list_follower.ensures.kept b.followed;
     }
 
 pub invariant_of-self-in-Break-branch-5 : goal.invariant_of-self-in-Break-branch-5
 invariant_of-self-in-Break-branch-5 c =
     let b = c.args.self.now in
     record {
-      placed = subst (Placed c.make_room.new.self b.settled.items) (sym c.in_err-push.ensures.items) (placed_same b.places c.make_room.new.self b.settled.items b.entries.items c.make_room.ensures.same b.placed);
-      followed = subst (Followed c.list_follower.new.followers) (sym c.in_err-push.ensures.items) (followed_kept b.followers c.list_follower.new.followers b.entries.items c.list_follower.ensures.kept b.followed);
+      placed = subst (Placed c.make_room.new.self b.settled.items) (sym c.in_err-push.ensures.items) (placed_same b.places c.make_room.new.self b.settled.items (opens b.entries) c.make_room.ensures.same b.placed);
+      followed = subst (Followed c.list_follower.new.followers) (sym c.in_err-push.ensures.items) (followed_kept b.followers c.list_follower.new.followers (opens b.entries) c.list_follower.ensures.kept b.followed);
     }
 
 pub invariant_of-self-2 : goal.invariant_of-self-2
 invariant_of-self-2 c =
     let b = c.args.self.now in
     let ss = b.settled.items in
-    let xs = b.entries.items in
+    let xs = opens b.entries in
     let e : Entry = record { event = c.args.deed.event; notes = c.args.deed.notes; seat = c.args.deed.seat; mark = mark.Live; touched = c.in_ok-touched.touched; records = c.args.records } in
     let at : c.len.result + c.len-2.result ≡ length ss + length xs = omega arith in
     let put = λ (k : EventName). c.put.ensures.put k ∙ ap (λ o. cond (k.0 == e.event.name.0) (Some (c.len.result + c.len-2.result)) o) (c.make_room.ensures.same k) in
@@ -81,26 +82,26 @@ returns-in_err-list_follower-clause-err c =
 
 pub returns-in_err-push-clause-err : goal.returns-in_err-push-clause-err
 returns-in_err-push-clause-err c =
-    on_err (◌≡◌ {A = List Item × State cells} (items_in c.args.self.now.settled.items c.push.new.self.items, state_of_world c.make_rooms.new.world) (shown c.args.self.now)) _
+    on_err (◌≡◌ {A = List Item × State cells} (items_in c.args.self.now.settled.items (opens c.push.new.self), state_of_world c.make_rooms.new.world) (shown c.args.self.now)) _
     (λ j. (items_in c.args.self.now.settled.items (c.in_err-push.ensures.items j), λ k. numbered (c.make_rooms.ensures.seen j k)))
 
 pub swap_entry-requires-clause-ready : goal.swap_entry-requires-clause-ready
 swap_entry-requires-clause-ready c =
     let b = c.args.self.now in
-    let xs = b.entries.items in
+    let xs = opens b.entries in
     let ss = map settled_item b.settled.items in
     let n = length-map b.settled.items settled_item in
     let e : Entry = record { event = c.args.deed.event; notes = c.args.deed.notes; seat = c.args.deed.seat; mark = mark.Live; touched = c.in_ok-touched.touched; records = c.args.records } in
     let room = is_ready c.make_rooms.new.world in
     let at : c.len.result + c.len-2.result ≡ length ss + length xs = omega (arith, n) in
     let here : all_pass room (item_of e).kept ≡ true = ap (λ l. all_pass room (kepts_of l)) (sym c.deref.ensures.value) ∙ c.in_ok-make_rooms.ensures.ok in
-    ready_behind room ss (map item_of c.push.new.self.items) (c.len.result + c.len-2.result) (length xs) at
+    ready_behind room ss (map item_of (opens c.push.new.self)) (c.len.result + c.len-2.result) (length xs) at
     ∙ both_true _ _ (ap (λ l. pass room (keys_at (map item_of l) (length xs))) c.in_ok-push.ensures.items ∙ ready_last room xs e here) refl
 
 pub returns-clause-ok : goal.returns-clause-ok
 returns-clause-ok c =
     let b = c.args.self.now in
-    let xs = b.entries.items in
+    let xs = opens b.entries in
     let ss = map settled_item b.settled.items in
     let n = length-map b.settled.items settled_item in
     let e : Entry = record { event = c.args.deed.event; notes = c.args.deed.notes; seat = c.args.deed.seat; mark = mark.Live; touched = c.in_ok-touched.touched; records = c.args.records } in
@@ -119,11 +120,11 @@ returns-clause-ok c =
 pub returns-clause-counted : goal.returns-clause-counted
 returns-clause-counted c =
     let b = c.args.self.now in
-    let xs = b.entries.items in
+    let xs = opens b.entries in
     let ss = map settled_item b.settled.items in
     let n = length-map b.settled.items settled_item in
     let e : Entry = record { event = c.args.deed.event; notes = c.args.deed.notes; seat = c.args.deed.seat; mark = mark.Live; touched = c.in_ok-touched.touched; records = c.args.records } in
     let at : c.len.result + c.len-2.result ≡ length ss + length xs = omega (arith, n) in
     c.swap_entry.ensures.counted
-    ∙ ap₂ (λ s k. (s + k) % 2 ^ 64) c.make_rooms.ensures.counted (count_behind ss (map item_of c.push.new.self.items) (c.len.result + c.len-2.result) (length xs) at
+    ∙ ap₂ (λ s k. (s + k) % 2 ^ 64) c.make_rooms.ensures.counted (count_behind ss (map item_of (opens c.push.new.self)) (c.len.result + c.len-2.result) (length xs) at
     ∙ ap (λ l. records_at (map item_of l) (length xs ∷ [])) c.in_ok-push.ensures.items ∙ count_last xs e ∙ length-map c.args.records.items kept_of)

@@ -2,19 +2,20 @@ use Rattle.std.proofs.Common.{◌≡◌, ◌+◌, ◌-◌, ◌<◌, ◌++◌, Li
 use Rattle.std.proofs.lemmas.List.{length-append, length-map}
 use Rattle.journal_links.specs.Places.{HasRoom}
 use Rattle.journal.specs.declared.entry.Entry.{Entry}
+use Rattle.undo.specs.OpenView.{opens}
 use Rattle.undo.specs.CoreView.{state_of}
 use Rattle.journal.specs.Items.{item_of, may_exchange}
 use Rattle.journal.specs.Journals.{settled_item}
 use Rattle.journal.proofs.Neighbouring.{map-exchanged}
 use Rattle.undo.proofs.Behind.{test_behind, turn_behind}
-use Rattle.undo.proofs.Exchanging.{swap_is, may_at}
+use Rattle.undo.proofs.Exchanging.{may_at}
 use Rattle.undo.proofs.Linked.{Placed, Followed, placed_turned, followed_turned, first_turned, second_turned, room_there}
 use Rattle.undo.proofs.undoing.Core.exchange.Goals as goal
 
 pub put-requires : goal.put-requires
 put-requires c =
     let b = c.args.self.now in
-    let xs = b.entries.items in
+    let xs = opens b.entries in
     let ss = b.settled.items in
     let place = c.args.position - c.len.result in
     let m : c.len.result ≡ length ss = omega arith in
@@ -22,14 +23,14 @@ put-requires c =
     let n = length-map ss settled_item in
     let all = length-append (map settled_item ss) (map item_of xs) in
     let h : place + 1 < length xs = omega (arith, all, n, m, length-map xs item_of, c.requires.behind, c.requires.within) in
-    let d = c.index-3.result.now in
-    let is : d ≡ get_or xs (place + 1) d = c.index-3.ensures ∙ ap (λ (es : List Entry). get_or es place d) (c.swap.ensures.items ∙ swap_is xs place h) ∙ first_turned xs place d h in
+    let d = c.at-3.result.now in
+    let is : d ≡ get_or xs (place + 1) d = c.at-3.ensures ∙ ap (λ (es : List Entry). get_or es place d) c.exchange.ensures ∙ first_turned xs place d h in
     subst (λ (x : Entry). HasRoom b.places x.event.name) (sym is) (room_there b.places ss xs (c.args.position + 1) (place + 1) d next h b.placed)
 
 pub put-requires-2 : goal.put-requires-2
 put-requires-2 c =
     let b = c.args.self.now in
-    let xs = b.entries.items in
+    let xs = opens b.entries in
     let ss = b.settled.items in
     let place = c.args.position - c.len.result in
     let m : c.len.result ≡ length ss = omega arith in
@@ -38,14 +39,14 @@ put-requires-2 c =
     let all = length-append (map settled_item ss) (map item_of xs) in
     let h : place + 1 < length xs = omega (arith, all, n, m, length-map xs item_of, c.requires.behind, c.requires.within) in
     let here : place < length xs = omega (arith, h) in
-    let d = c.index-4.result.now in
-    let is : d ≡ get_or xs place d = c.index-4.ensures ∙ ap (λ (es : List Entry). get_or es (place + 1) d) (c.swap.ensures.items ∙ swap_is xs place h) ∙ second_turned xs place d h in
+    let d = c.at-4.result.now in
+    let is : d ≡ get_or xs place d = c.at-4.ensures ∙ ap (λ (es : List Entry). get_or es (place + 1) d) c.exchange.ensures ∙ second_turned xs place d h in
     c.put.ensures.room d.event.name (subst (λ (x : Entry). HasRoom b.places x.event.name) (sym is) (room_there b.places ss xs c.args.position place d at here b.placed))
 
 pub invariant_of-self-2 : goal.invariant_of-self-2
 invariant_of-self-2 c =
     let b = c.args.self.now in
-    let xs = b.entries.items in
+    let xs = opens b.entries in
     let ss = b.settled.items in
     let place = c.args.position - c.len.result in
     let m : c.len.result ≡ length ss = omega arith in
@@ -53,11 +54,11 @@ invariant_of-self-2 c =
     let n = length-map ss settled_item in
     let all = length-append (map settled_item ss) (map item_of xs) in
     let h : place + 1 < length xs = omega (arith, all, n, m, length-map xs item_of, c.requires.behind, c.requires.within) in
-    let turned = c.swap.ensures.items ∙ swap_is xs place h in
-    let first = c.index-3.result.now in
-    let second = c.index-4.result.now in
-    let is_first : first ≡ get_or xs (place + 1) first = c.index-3.ensures ∙ ap (λ (es : List Entry). get_or es place first) turned ∙ first_turned xs place first h in
-    let is_second : second ≡ get_or xs place second = c.index-4.ensures ∙ ap (λ (es : List Entry). get_or es (place + 1) second) turned ∙ second_turned xs place second h in
+    let turned = c.exchange.ensures in
+    let first = c.at-3.result.now in
+    let second = c.at-4.result.now in
+    let is_first : first ≡ get_or xs (place + 1) first = c.at-3.ensures ∙ ap (λ (es : List Entry). get_or es place first) turned ∙ first_turned xs place first h in
+    let is_second : second ≡ get_or xs place second = c.at-4.ensures ∙ ap (λ (es : List Entry). get_or es (place + 1) second) turned ∙ second_turned xs place second h in
     record {
       placed = subst (Placed c.put-2.new.self ss) (sym turned)
           (placed_turned b.places c.put.new.self c.put-2.new.self ss xs c.args.position place second first second.event.name first.event.name at h
@@ -68,7 +69,7 @@ invariant_of-self-2 c =
 pub returns-then-not-may_exchange-clause-done : goal.returns-then-not-may_exchange-clause-done
 returns-then-not-may_exchange-clause-done c =
     let b = c.args.self.now in
-    let xs = b.entries.items in
+    let xs = opens b.entries in
     let ss = map settled_item b.settled.items in
     let n = length-map b.settled.items settled_item in
     let place = c.args.position - c.len.result in
@@ -76,13 +77,13 @@ returns-then-not-may_exchange-clause-done c =
     let at : c.args.position ≡ length ss + place = omega (arith, n, m, c.requires.behind) in
     let all = length-append ss (map item_of xs) in
     let h : place + 1 < length xs = omega (arith, all, n, m, length-map xs item_of, c.requires.behind, c.requires.within) in
-    sym c.if-not-may_exchange.true ∙ c.may_exchange.ensures ∙ ap₂ (λ a b. may_exchange (item_of a) (item_of b)) c.index.ensures c.index-2.ensures
-    ∙ sym (may_at xs place c.index.result.now c.index-2.result.now h) ∙ sym (test_behind may_exchange ss (map item_of xs) c.args.position place at)
+    sym c.if-not-may_exchange.true ∙ c.may_exchange.ensures ∙ ap₂ (λ a b. may_exchange (item_of a) (item_of b)) c.at.ensures c.at-2.ensures
+    ∙ sym (may_at xs place c.at.result.now c.at-2.result.now h) ∙ sym (test_behind may_exchange ss (map item_of xs) c.args.position place at)
 
 pub returns-clause-done : goal.returns-clause-done
 returns-clause-done c =
     let b = c.args.self.now in
-    let xs = b.entries.items in
+    let xs = opens b.entries in
     let ss = map settled_item b.settled.items in
     let n = length-map b.settled.items settled_item in
     let place = c.args.position - c.len.result in
@@ -90,13 +91,13 @@ returns-clause-done c =
     let at : c.args.position ≡ length ss + place = omega (arith, n, m, c.requires.behind) in
     let all = length-append ss (map item_of xs) in
     let h : place + 1 < length xs = omega (arith, all, n, m, length-map xs item_of, c.requires.behind, c.requires.within) in
-    sym c.if-not-may_exchange.false ∙ c.may_exchange.ensures ∙ ap₂ (λ a b. may_exchange (item_of a) (item_of b)) c.index.ensures c.index-2.ensures
-    ∙ sym (may_at xs place c.index.result.now c.index-2.result.now h) ∙ sym (test_behind may_exchange ss (map item_of xs) c.args.position place at)
+    sym c.if-not-may_exchange.false ∙ c.may_exchange.ensures ∙ ap₂ (λ a b. may_exchange (item_of a) (item_of b)) c.at.ensures c.at-2.ensures
+    ∙ sym (may_at xs place c.at.result.now c.at-2.result.now h) ∙ sym (test_behind may_exchange ss (map item_of xs) c.args.position place at)
 
 pub returns-clause-shown : goal.returns-clause-shown
 returns-clause-shown c =
     let b = c.args.self.now in
-    let xs = b.entries.items in
+    let xs = opens b.entries in
     let ss = map settled_item b.settled.items in
     let n = length-map b.settled.items settled_item in
     let place = c.args.position - c.len.result in
@@ -105,4 +106,4 @@ returns-clause-shown c =
     let all = length-append ss (map item_of xs) in
     let h : place + 1 < length xs = omega (arith, all, n, m, length-map xs item_of, c.requires.behind, c.requires.within) in
     ap (λ l. (l, state_of b))
-    (ap (λ l. ss ++ map item_of l) (c.swap.ensures.items ∙ swap_is xs place h) ∙ ap (λ l. ss ++ l) (map-exchanged item_of place xs) ∙ sym (turn_behind ss (map item_of xs) c.args.position place at))
+    (ap (λ l. ss ++ map item_of l) c.exchange.ensures ∙ ap (λ l. ss ++ l) (map-exchanged item_of place xs) ∙ sym (turn_behind ss (map item_of xs) c.args.position place at))

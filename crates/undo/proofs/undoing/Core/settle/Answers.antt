@@ -1,51 +1,55 @@
-use Rattle.std.proofs.Common.{◌≡◌, ◌∙◌, ◌+◌, ◌-◌, ◌≤◌, true, ◌++◌, List, length, map, take, drop, sym, ap, ap₂, append_assoc, subst, arith}
+use Rattle.std.proofs.Common.{◌≡◌, ◌∙◌, true, ◌++◌, List, map, take, drop, sym, ap, ap₂, subst}
 use Rattle.std.specs.List.{AllByRecursion}
-use Rattle.std.proofs.lemmas.List.{length-map}
+use Rattle.journal_links.specs.Followers.{IsLetGo}
 use Rattle.journal.specs.Items.{Item, item_of}
 use Rattle.journal.specs.Journals.{settled_item}
+use Rattle.journal.specs.declared.entry.Entry.{Entry}
+use Rattle.undo.specs.OpenView.{opens}
 use Rattle.undo.specs.CoreView.{state_of}
-use Rattle.undo.proofs.Settling.{map_take, rotated, all_stay}
-use Rattle.undo.proofs.Linked.{Placed, placed_settled, followed_kept, followed_settled}
+use Rattle.undo.proofs.Settling.{map_take, all_stay, all_mapped}
+use Rattle.undo.proofs.Linked.{Placed, placed_settled, followed_settled}
 use Rattle.undo.proofs.undoing.Core.settle.Goals as goal
 
 pub invariant_of-self-in-Break-branch-2 : goal.invariant_of-self-in-Break-branch-2
 invariant_of-self-in-Break-branch-2 c =
     let b = c.args.self.now in
     record {
-      placed = subst (λ ss. Placed b.places ss b.entries.items) (sym c.in_err-append.ensures.items) b.placed;
-      followed = followed_kept b.followers c.let_go.new.followers b.entries.items c.let_go.ensures b.followed;
+      placed = subst (λ ss. Placed b.places ss (opens b.entries)) (sym c.in_err-append.ensures.items) b.placed;
+      followed = b.followed;
     }
 
 pub invariant_of-self-2 : goal.invariant_of-self-2
 invariant_of-self-2 c =
     let b = c.args.self.now in
-    let xs = b.entries.items in
+    let xs = opens b.entries in
     let n = c.args.count in
-    let within : n ≤ length xs = (let m = length-map xs item_of in omega (arith, m, c.requires.within)) in
-    let many : c.len.result ≡ length xs = omega (arith, c.rotate_left.ensures.len, c.len.ensures, b.entries.ok.0) in
-    let left : c.len.result - n ≡ length xs - n = omega (arith, many) in
-    let entries : c.truncate.new.self.items ≡ drop n xs = c.truncate.ensures.items ∙ ap (take (c.len.result - n)) c.rotate_left.ensures.items ∙ rotated n (c.len.result - n) xs within left in
-    let new : map settled_item c.in_ok-settled.settled.items ≡ map item_of (take n xs) = c.in_ok-settled.ensures ∙ ap (λ es. map item_of (take n es)) c.deref.ensures.value in
+    let left : opens c.let_go-2.new.self ≡ drop n xs = c.let_go-2.ensures in
+    let new : map settled_item c.in_ok-settled.settled.items ≡ map item_of (take n xs) = c.in_ok-settled.ensures ∙ ap (λ es. map item_of (take n es)) c.as_slice.ensures in
     record {
-      placed = placed_settled b.places b.settled.items c.append.new.self.items xs c.truncate.new.self.items
-          (ap₂ (λ ss es. map settled_item ss ++ map item_of es) c.in_ok-append.ensures.items entries ∙ all_stay settled_item item_of b.settled.items c.in_ok-settled.settled.items n xs new) b.placed;
-      followed = followed_settled b.followers c.let_go.new.followers n xs c.truncate.new.self.items entries c.let_go.ensures b.followed;
+      placed = placed_settled b.places b.settled.items c.append.new.self.items xs (opens c.let_go-2.new.self)
+          (ap₂ (λ ss es. map settled_item ss ++ map item_of es) c.in_ok-append.ensures.items left ∙ all_stay settled_item item_of b.settled.items c.in_ok-settled.settled.items n xs new) b.placed;
+      followed = followed_settled b.followers c.let_go.new.followers n xs (opens c.let_go-2.new.self) left c.let_go.ensures.kept b.followed;
     }
 
 pub of_all-requires : goal.of_all-requires
 of_all-requires c =
-    subst (λ es. AllByRecursion (λ (i : Item). i.live ≡ true) (map item_of (take c.args.count es))) (sym c.deref.ensures.value)
-    (subst (AllByRecursion (λ (i : Item). i.live ≡ true)) (map_take item_of c.args.count c.args.self.now.entries.items) c.requires.live)
+    subst (λ es. AllByRecursion (λ (i : Item). i.live ≡ true) (map item_of (take c.args.count es))) (sym c.as_slice.ensures)
+    (subst (AllByRecursion (λ (i : Item). i.live ≡ true)) (map_take item_of c.args.count (opens c.args.self.now.entries)) c.requires.live)
 
 pub returns-clause-shown : goal.returns-clause-shown
 returns-clause-shown c =
     let b = c.args.self.now in
-    let xs = b.entries.items in
+    let xs = opens b.entries in
     let n = c.args.count in
-    let within : n ≤ length xs = (let m = length-map xs item_of in omega (arith, m, c.requires.within)) in
-    let many : c.len.result ≡ length xs = omega (arith, c.rotate_left.ensures.len, c.len.ensures, b.entries.ok.0) in
-    let left : c.len.result - n ≡ length xs - n = omega (arith, many) in
-    let entries : c.truncate.new.self.items ≡ drop n xs = c.truncate.ensures.items ∙ ap (take (c.len.result - n)) c.rotate_left.ensures.items ∙ rotated n (c.len.result - n) xs within left in
-    let new : map settled_item c.in_ok-settled.settled.items ≡ map item_of (take n xs) = c.in_ok-settled.ensures ∙ ap (λ es. map item_of (take n es)) c.deref.ensures.value in
-    ap₂ (λ ss es. (map settled_item ss ++ map item_of es, state_of b)) c.in_ok-append.ensures.items entries
+    let new : map settled_item c.in_ok-settled.settled.items ≡ map item_of (take n xs) = c.in_ok-settled.ensures ∙ ap (λ es. map item_of (take n es)) c.as_slice.ensures in
+    ap₂ (λ ss es. (map settled_item ss ++ map item_of es, state_of b)) c.in_ok-append.ensures.items c.let_go-2.ensures
     ∙ ap (λ l. (l, state_of b)) (all_stay settled_item item_of b.settled.items c.in_ok-settled.settled.items n xs new)
+
+pub returns-clause-unlisted : goal.returns-clause-unlisted
+returns-clause-unlisted c =
+    let xs = opens c.args.self.now.entries in
+    let n = c.args.count in
+    let lists = c.let_go.new.followers in
+    subst (AllByRecursion (λ (i : Item). IsLetGo lists i.event.name)) (sym (map_take item_of n xs))
+    (all_mapped (λ (i : Item). IsLetGo lists i.event.name) item_of (take n xs)
+    (subst (λ (es : List Entry). AllByRecursion (λ (x : Entry). IsLetGo lists x.event.name) (take n es)) c.as_slice.ensures c.let_go.ensures.gone))

@@ -3,6 +3,7 @@ use Rattle.std.proofs.lemmas.List.{length-append, length-map}
 use Rattle.std.proofs.lemmas.List.Elements.{All-get_or}
 use Rattle.ids.specs.declared.cells.CellKey.{CellKey}
 use Rattle.world_cells.specs.Theory.{kepts_of}
+use Rattle.undo.specs.OpenView.{opens}
 use Rattle.undo.specs.CoreView.{items_of}
 use Rattle.undo.specs.Written.{written_at}
 use Rattle.journal.specs.Items.{item_of, keys_at}
@@ -16,7 +17,7 @@ loop-position-preserved c =
     let ps = c.args.positions.now in
     let i = c.loop-position.position-index in
     let p = get_or ps i 0 in
-    let xs = c.args.self.now.entries.items in
+    let xs = opens c.args.self.now.entries in
     let items = items_of c.args.self.now in
     let h : i < length ps = omega arith in
     let there : p < length items = All-get_or (λ q. q < length items) ps i 0 h c.requires.within in
@@ -28,9 +29,9 @@ loop-position-preserved c =
     let at : p ≡ length ss + place = omega (arith, many, m, behind) in
     let all = length-append ss (map item_of xs) in
     let within : place < length xs = omega (arith, all, many, m, length-map xs item_of, behind, there) in
-    let x = c.index.result.now in
+    let x = c.at.result.now in
     let ks : List CellKey = map (λ r. r.0) (kepts_of c.deref.result.now) in
     let here : keys_at items p ≡ Some ks =
     keys_behind ss (map item_of xs) p place at ∙ keys_there xs place x within
-    ∙ ap (λ e. Some (map (λ r. r.0) (item_of e).kept)) (sym c.index.ensures) ∙ ap (λ l. Some (map (λ r. r.0) (kepts_of l))) (sym c.deref.ensures.value) in
+    ∙ ap (λ e. Some (map (λ r. r.0) (item_of e).kept)) (sym c.at.ensures) ∙ ap (λ l. Some (map (λ r. r.0) (kepts_of l))) (sym c.deref.ensures.value) in
     c.in_ok-add_keys.ensures ∙ ap (λ l. l ++ ks) c.loop-position.invariant ∙ written_more items ps i ks h here
