@@ -17,6 +17,7 @@ use Rattle.journal.specs.declared.settled.Settled.{Settled}
 use Rattle.journal.proofs.Settling.{item_behind}
 use Rattle.journal.specs.declared.entry.Entry as code
 use Rattle.desk.specs.Desks.{Lent, without, is_out}
+use Rattle.undo.specs.OpenView.{opens}
 use Rattle.undo.specs.CoreView.{items_of}
 use Rattle.book.specs.Books.{Book}
 use Rattle.book.specs.BookView.{book_of}
@@ -207,8 +208,8 @@ last_entered ss es k x lines before e same at long is =
     ap (λ o. (from_some o e).event) (sym found ∙ last)
 
 -- ---- what is settled of a journal, and how long it may be
-lines_in : (b : code-book.Book) → length (book_of b).journal ≡ length b.core.settled.items + length b.core.entries.items
-lines_in b = length-map (items_of b.core) (line_of (items_of b.core)) ∙ items_length b.core.settled.items b.core.entries.items
+lines_in : (b : code-book.Book) → length (book_of b).journal ≡ length b.core.settled.items + length (opens b.core.entries)
+lines_in b = length-map (items_of b.core) (line_of (items_of b.core)) ∙ items_length b.core.settled.items (opens b.core.entries)
 
 pub journal_within : (b : code-book.Book) → length (book_of b).journal + 1 < 2 ^ 64
 journal_within b =

@@ -11,6 +11,7 @@ use Rattle.journal_links.specs.contracts.followers.Followers as followers
 use Rattle.journal_links.specs.contracts.places.Places as places
 use Rattle.journal.specs.contracts.entry.Entry as entry
 use Rattle.journal.specs.contracts.settled.Settled as settled
+use Rattle.undo.specs.contracts.open_entries.OpenEntries as open_entries
 use Rattle.undo.specs.contracts.undoing.Core as core
 use Rattle.bench.proofs.crossing.Messages.{message_crosses, published_crosses, script_crosses, question_crosses}
 use Rattle.bench.proofs.crossing.More.{table_crosses, note_crosses, mark_crosses, touched_crosses}
@@ -158,16 +159,30 @@ followers_row_sync = search (followers_sync, event_crosses, sendable, crosses) d
 
 pub ruleset followers_crosses = (followers_send, followers_sync, followers_row_send, followers_row_sync)
 
+pub open_entries_send : IsSend (open_entries.the_field).row
+open_entries_send = search (entry_crosses, sendable, crosses) depth 40
+
+pub open_entries_row_send : IsSend open_entries.the_row
+open_entries_row_send = search (open_entries_send, entry_crosses, sendable, crosses) depth 40
+
+pub open_entries_sync : IsSync (open_entries.the_field).row
+open_entries_sync = search (entry_crosses, sendable, crosses) depth 40
+
+pub open_entries_row_sync : IsSync open_entries.the_row
+open_entries_row_sync = search (open_entries_sync, entry_crosses, sendable, crosses) depth 40
+
+pub ruleset open_entries_crosses = (open_entries_send, open_entries_sync, open_entries_row_send, open_entries_row_sync)
+
 pub core_send : IsSend (core.the_field).row
-core_send = search (world_crosses, settled_crosses, entry_crosses, places_crosses, followers_crosses, sendable, crosses) depth 40
+core_send = search (world_crosses, settled_crosses, open_entries_crosses, places_crosses, followers_crosses, sendable, crosses) depth 40
 
 pub core_row_send : IsSend core.the_row
-core_row_send = search (core_send, world_crosses, settled_crosses, entry_crosses, places_crosses, followers_crosses, sendable, crosses) depth 40
+core_row_send = search (core_send, world_crosses, settled_crosses, open_entries_crosses, places_crosses, followers_crosses, sendable, crosses) depth 40
 
 pub core_sync : IsSync (core.the_field).row
-core_sync = search (world_crosses, settled_crosses, entry_crosses, places_crosses, followers_crosses, sendable, crosses) depth 40
+core_sync = search (world_crosses, settled_crosses, open_entries_crosses, places_crosses, followers_crosses, sendable, crosses) depth 40
 
 pub core_row_sync : IsSync core.the_row
-core_row_sync = search (core_sync, world_crosses, settled_crosses, entry_crosses, places_crosses, followers_crosses, sendable, crosses) depth 40
+core_row_sync = search (core_sync, world_crosses, settled_crosses, open_entries_crosses, places_crosses, followers_crosses, sendable, crosses) depth 40
 
 pub ruleset core_crosses = (core_send, core_sync, core_row_send, core_row_sync)

@@ -67,8 +67,8 @@ returns-clause-keys c =
     let y = c.swap.ensures.entry.entry in
     let same = c.swap.ensures.entry.item y in
     let kept = keys_stay_behind ss (map item_of xs) (map item_of (set xs place y))
-        (keys_stay xs place y y (ready_within (ready_of b) xs place room)
-        (keys_after (item_of y) (item_of (get_or xs place y)) w (ap (λ (r : Item × State cells). r.0.kept) same))) in
+    (keys_stay xs place y y (ready_within (ready_of b) xs place room)
+    (keys_after (item_of y) (item_of (get_or xs place y)) w (ap (λ (r : Item × State cells). r.0.kept) same))) in
     λ p. ap (λ (l : List Entry). keys_at (ss ++ map item_of l) p) c.swap.ensures.entry.put ∙ kept p
 
 pub returns-clause-counted : goal.returns-clause-counted
