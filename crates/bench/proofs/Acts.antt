@@ -1,4 +1,4 @@
--- What a command or a step that is picked does to a book, as its seat sees it.
+-- What a request or a step that is picked does to a book, as its seat sees it.
 use Rattle.std.proofs.Common.{◌≡◌, ℕ, Some, [], ◌∷◌, ◌++◌, false, refl, ap, ◌∙◌}
 use Rattle.ids.specs.declared.names.EventName.{EventName}
 use Rattle.world_cells.specs.Events.{Act, Event}
@@ -7,32 +7,32 @@ use Rattle.world_cells.specs.declared.event.Event as code
 use Rattle.book_agenda.specs.declared.agenda.Step.{Step}
 use Rattle.book.specs.Books.{Book}
 use Rattle.bench_pact.specs.Agree.{strike, entered_by}
-use Rattle.bench.specs.declared.command.Command.{Command}
-use Rattle.bench.specs.declared.command.Command.TheVariants as command
+use Rattle.bench.specs.declared.request.Request.{Request}
+use Rattle.bench.specs.declared.request.Request.TheVariants as request
 use Rattle.bench.specs.declared.pick.Pick.TheVariants as pick
 use Rattle.book_crew.specs.Work.{is_turn}
-use Rattle.bench.specs.Desk.{Held, Returns}
+use Rattle.bench.specs.SharedBook.{Held, Returns}
 use Rattle.bench.specs.Author.{IsActOf, IsStep, Obeys, Picks, mark_of}
 use Rattle.bench.proofs.Agrees.{Grows}
-use Rattle.bench.proofs.Moves.{grows_act, act_of_command, command_no_turn, step_no_turn}
+use Rattle.bench.proofs.Moves.{grows_act, act_of_request, request_no_turn, step_no_turn}
 
--- a command entered an event
-pub record Entering (c : Command) (e : EventName) (seat : ℕ) (old now : Book) : Type 0 where
+-- a request entered an event
+pub record Entering (c : Request) (e : EventName) (seat : ℕ) (old now : Book) : Type 0 where
   pub act : Act
-  pub of_command : IsActOf c act
+  pub of_request : IsActOf c act
   pub no_turn : is_turn act ≡ false
   pub grows : Grows (record { seat = seat; event = record { name = e; act = act } }) old now
   pub same_out : now.out ≡ old.out
   pub same_settled : now.settled ≡ old.settled
 
-pub entering : (c : Command) (e : EventName) (seat : ℕ) (old now : Book) → Obeys c seat (Some e) old now → Entering c e seat old now
+pub entering : (c : Request) (e : EventName) (seat : ℕ) (old now : Book) → Obeys c seat (Some e) old now → Entering c e seat old now
 entering c e seat old now h =
     let act = h.1.0 in
     let enters = h.1.2 in
-    let of_command = act_of_command c old act h.1.1 in record {
+    let of_request = act_of_request c old act h.1.1 in record {
       act = act;
-      of_command = of_command;
-      no_turn = command_no_turn c act of_command;
+      of_request = of_request;
+      no_turn = request_no_turn c act of_request;
       grows = grows_act e act seat old now enters;
       same_out = enters.enters.same_out;
       same_settled = enters.enters.same_settled;
@@ -60,16 +60,16 @@ moving budget seat e old now h = record {
 }
 
 -- what is marked enters nothing
-pub mark_enters_none : (c : Command) → entered_by (mark_of c) ≡ 0
-mark_enters_none (command.Abandon n) = refl
-mark_enters_none (command.Birth x earlier script) = refl
-mark_enters_none (command.Ask x program) = refl
-mark_enters_none (command.Arrive m) = refl
-mark_enters_none (command.Forward m) = refl
-mark_enters_none (command.Learn x p) = refl
-mark_enters_none (command.Undo names) = refl
-mark_enters_none (command.Redo names) = refl
-mark_enters_none (command.Exchange position) = refl
+pub mark_enters_none : (c : Request) → entered_by (mark_of c) ≡ 0
+mark_enters_none (request.Abandon n) = refl
+mark_enters_none (request.Birth x earlier script) = refl
+mark_enters_none (request.Ask x program) = refl
+mark_enters_none (request.Arrive m) = refl
+mark_enters_none (request.Forward m) = refl
+mark_enters_none (request.Learn x p) = refl
+mark_enters_none (request.Undo names) = refl
+mark_enters_none (request.Redo names) = refl
+mark_enters_none (request.Exchange position) = refl
 
 -- a seat whose event is added, and of whose tickets one is struck out
 abbrev with_event : Held → code.Event → EventName → Held

@@ -30,14 +30,14 @@ use Rattle.bench_pact.specs.declared.TokenView.{TokenView}
 use Rattle.bench_pact.specs.declared.Deeds.{Deeds}
 use Rattle.bench_pact.specs.Agree.{after, knower}
 use Rattle.std.specs.Prelude.{slice_set}
-use Rattle.bench.specs.declared.command.Command.{Command}
-use Rattle.bench.specs.declared.command.Command.TheVariants as command
+use Rattle.bench.specs.declared.request.Request.{Request}
+use Rattle.bench.specs.declared.request.Request.TheVariants as request
 use Rattle.book.specs.Entered.{Entered, entered_in}
 use Rattle.book_crew.specs.Work.{is_turn}
 use Rattle.bench.specs.Seats.{events_by}
-use Rattle.bench.specs.Desk.{IsDesk}
-use Rattle.bench.specs.Author.{IsEntered, IsActOf, IsStep, EntersAct, Marks, EntersNone, Refuses, command_refusal, mark_of}
-use Rattle.bench.proofs.Agrees.{entry, Grows, grown, Rests, rests_same, desk_rested, desk_closed}
+use Rattle.bench.specs.SharedBook.{IsSharedBook}
+use Rattle.bench.specs.Author.{IsEntered, IsActOf, IsStep, EntersAct, Marks, EntersNone, Refuses, request_refusal, mark_of}
+use Rattle.bench.proofs.Agrees.{entry, Grows, grown, Rests, rests_same, shared_rested, shared_closed}
 
 -- ---- an event is entered
 pub grows : (e : Noted) (f : Foot) (seat : ℕ) (old now : Book) → Enters e f seat old now → Grows (record { seat = seat; event = event_in e }) old now
@@ -47,21 +47,21 @@ pub grows_act : (e : EventName) (act : Act) (seat : ℕ) (old now : Book) → En
 grows_act e act seat old now h = grows (with_notes (record { name = e; act = act }) []) h.foot seat old now h.enters.enters
 
 -- of which events the acts are
-pub act_of_command : (c : Command) (b : Book) (act : Act) → IsEntered c b act → IsActOf c act
-act_of_command (command.Birth x earlier script) b act h = h
-act_of_command (command.Ask x program) b act h = h
-act_of_command (command.Arrive m) b act h = h
-act_of_command (command.Forward m) b act h = h
-act_of_command (command.Learn x p) b act h = (h.0.number, h.2)
-act_of_command _ b act h = absurd h
+pub act_of_request : (c : Request) (b : Book) (act : Act) → IsEntered c b act → IsActOf c act
+act_of_request (request.Birth x earlier script) b act h = h
+act_of_request (request.Ask x program) b act h = h
+act_of_request (request.Arrive m) b act h = h
+act_of_request (request.Forward m) b act h = h
+act_of_request (request.Learn x p) b act h = (h.0.number, h.2)
+act_of_request _ b act h = absurd h
 
-pub command_no_turn : (c : Command) (act : Act) → IsActOf c act → is_turn act ≡ false
-command_no_turn (command.Birth x earlier script) act h = ap is_turn h
-command_no_turn (command.Ask x program) act h = ap is_turn h
-command_no_turn (command.Arrive m) act h = ap is_turn h
-command_no_turn (command.Forward m) act h = ap is_turn h
-command_no_turn (command.Learn x p) act h = ap is_turn h.1
-command_no_turn _ act h = absurd h
+pub request_no_turn : (c : Request) (act : Act) → IsActOf c act → is_turn act ≡ false
+request_no_turn (request.Birth x earlier script) act h = ap is_turn h
+request_no_turn (request.Ask x program) act h = ap is_turn h
+request_no_turn (request.Arrive m) act h = ap is_turn h
+request_no_turn (request.Forward m) act h = ap is_turn h
+request_no_turn (request.Learn x p) act h = ap is_turn h.1
+request_no_turn _ act h = absurd h
 
 pub step_no_turn : (s : Step) (act : Act) → IsStep s act → is_turn act ≡ false
 step_no_turn (step.Arrive m) act h = ap is_turn h
@@ -136,44 +136,44 @@ rests_exchanged : (position : ℕ) (old now : Book) → exchange_refusal old.set
 rests_exchanged zero old now accepted h = absurd (cc)
 rests_exchanged (suc n) old now accepted h = rests_moved n old now (h.places n (omega arith))
 
--- ---- what lies under the lock, after a command that enters no event, or one that is refused
-pub marked : (c : Command) (first made place : ℕ) (began : List Entered) (v w : TokenView) (old now : Book) (d : Deeds)
-    → IsDesk first made began v old → slice_get v.all place ≡ Some d → command_refusal c old ≡ None → Marks c old now → w ≡ knower (slice_set v.all place (after (mark_of c) d))
-    → IsDesk first made began w now × Rests old now
-marked (command.Abandon n) first made place began v w old now d h at accepted m is =
+-- ---- what lies under the lock, after a request that enters no event, or one that is refused
+pub marked : (c : Request) (first made place : ℕ) (began : List Entered) (v w : TokenView) (old now : Book) (d : Deeds)
+    → IsSharedBook first made began v old → slice_get v.all place ≡ Some d → request_refusal c old ≡ None → Marks c old now → w ≡ knower (slice_set v.all place (after (mark_of c) d))
+    → IsSharedBook first made began w now × Rests old now
+marked (request.Abandon n) first made place began v w old now d h at accepted m is =
     let rests = rests_same old now (ap (λ b. b.journal) m) in
-    (desk_closed first made place began v w old now d h at rests n (ap (λ b. b.out) m) is, rests)
-marked (command.Undo names) first made place began v w old now d h at accepted m is =
+    (shared_closed first made place began v w old now d h at rests n (ap (λ b. b.out) m) is, rests)
+marked (request.Undo names) first made place began v w old now d h at accepted m is =
     let rests = rests_undone names.items old now m in
-    (desk_rested first made place began v w old now d h at rests m.same_out is, rests)
-marked (command.Redo names) first made place began v w old now d h at accepted m is =
+    (shared_rested first made place began v w old now d h at rests m.same_out is, rests)
+marked (request.Redo names) first made place began v w old now d h at accepted m is =
     let rests = rests_redone names.items old now m in
-    (desk_rested first made place began v w old now d h at rests m.same_out is, rests)
-marked (command.Exchange position) first made place began v w old now d h at accepted m is =
+    (shared_rested first made place began v w old now d h at rests m.same_out is, rests)
+marked (request.Exchange position) first made place began v w old now d h at accepted m is =
     let rests = rests_exchanged position old now accepted m in
-    (desk_rested first made place began v w old now d h at rests m.same_out is, rests)
+    (shared_rested first made place began v w old now d h at rests m.same_out is, rests)
 marked _ first made place began v w old now d h at accepted m is = absurd m
 
-pub refused_marked : (c : Command) (fault : BookFault) (first made place : ℕ) (began : List Entered) (v w : TokenView) (old now : Book) (d : Deeds)
-    → IsDesk first made began v old → slice_get v.all place ≡ Some d → Refuses c old fault → now ≡ old → w ≡ knower (slice_set v.all place (after (mark_of c) d))
-    → IsDesk first made began w now × Rests old now
-refused_marked (command.Abandon n) fault first made place began v w old now d h at refused same is =
+pub refused_marked : (c : Request) (fault : BookFault) (first made place : ℕ) (began : List Entered) (v w : TokenView) (old now : Book) (d : Deeds)
+    → IsSharedBook first made began v old → slice_get v.all place ≡ Some d → Refuses c old fault → now ≡ old → w ≡ knower (slice_set v.all place (after (mark_of c) d))
+    → IsSharedBook first made began w now × Rests old now
+refused_marked (request.Abandon n) fault first made place began v w old now d h at refused same is =
     let rests = rests_same old now (ap (λ b. b.journal) same) in
-    (desk_closed first made place began v w old now d h at rests n (ap (λ b. b.out) same ∙ sym (not_out n old.out refused.1)) is, rests)
-refused_marked (command.Birth x earlier script) fault first made place began v w old now d h at refused same is = let rests = rests_same old now (ap (λ b. b.journal) same) in (desk_rested first made place began v w old now d h at rests (ap (λ b. b.out) same) is, rests)
-refused_marked (command.Ask x program) fault first made place began v w old now d h at refused same is = let rests = rests_same old now (ap (λ b. b.journal) same) in (desk_rested first made place began v w old now d h at rests (ap (λ b. b.out) same) is, rests)
-refused_marked (command.Arrive m) fault first made place began v w old now d h at refused same is = let rests = rests_same old now (ap (λ b. b.journal) same) in (desk_rested first made place began v w old now d h at rests (ap (λ b. b.out) same) is, rests)
-refused_marked (command.Forward m) fault first made place began v w old now d h at refused same is = let rests = rests_same old now (ap (λ b. b.journal) same) in (desk_rested first made place began v w old now d h at rests (ap (λ b. b.out) same) is, rests)
-refused_marked (command.Learn x p) fault first made place began v w old now d h at refused same is = let rests = rests_same old now (ap (λ b. b.journal) same) in (desk_rested first made place began v w old now d h at rests (ap (λ b. b.out) same) is, rests)
-refused_marked (command.Undo names) fault first made place began v w old now d h at refused same is = let rests = rests_same old now (ap (λ b. b.journal) same) in (desk_rested first made place began v w old now d h at rests (ap (λ b. b.out) same) is, rests)
-refused_marked (command.Redo names) fault first made place began v w old now d h at refused same is = let rests = rests_same old now (ap (λ b. b.journal) same) in (desk_rested first made place began v w old now d h at rests (ap (λ b. b.out) same) is, rests)
-refused_marked (command.Exchange position) fault first made place began v w old now d h at refused same is = let rests = rests_same old now (ap (λ b. b.journal) same) in (desk_rested first made place began v w old now d h at rests (ap (λ b. b.out) same) is, rests)
+    (shared_closed first made place began v w old now d h at rests n (ap (λ b. b.out) same ∙ sym (not_out n old.out refused.1)) is, rests)
+refused_marked (request.Birth x earlier script) fault first made place began v w old now d h at refused same is = let rests = rests_same old now (ap (λ b. b.journal) same) in (shared_rested first made place began v w old now d h at rests (ap (λ b. b.out) same) is, rests)
+refused_marked (request.Ask x program) fault first made place began v w old now d h at refused same is = let rests = rests_same old now (ap (λ b. b.journal) same) in (shared_rested first made place began v w old now d h at rests (ap (λ b. b.out) same) is, rests)
+refused_marked (request.Arrive m) fault first made place began v w old now d h at refused same is = let rests = rests_same old now (ap (λ b. b.journal) same) in (shared_rested first made place began v w old now d h at rests (ap (λ b. b.out) same) is, rests)
+refused_marked (request.Forward m) fault first made place began v w old now d h at refused same is = let rests = rests_same old now (ap (λ b. b.journal) same) in (shared_rested first made place began v w old now d h at rests (ap (λ b. b.out) same) is, rests)
+refused_marked (request.Learn x p) fault first made place began v w old now d h at refused same is = let rests = rests_same old now (ap (λ b. b.journal) same) in (shared_rested first made place began v w old now d h at rests (ap (λ b. b.out) same) is, rests)
+refused_marked (request.Undo names) fault first made place began v w old now d h at refused same is = let rests = rests_same old now (ap (λ b. b.journal) same) in (shared_rested first made place began v w old now d h at rests (ap (λ b. b.out) same) is, rests)
+refused_marked (request.Redo names) fault first made place began v w old now d h at refused same is = let rests = rests_same old now (ap (λ b. b.journal) same) in (shared_rested first made place began v w old now d h at rests (ap (λ b. b.out) same) is, rests)
+refused_marked (request.Exchange position) fault first made place began v w old now d h at refused same is = let rests = rests_same old now (ap (λ b. b.journal) same) in (shared_rested first made place began v w old now d h at rests (ap (λ b. b.out) same) is, rests)
 
-pub none_entered : (c : Command) (old now : Book) → Marks c old now → EntersNone c
-none_entered (command.Abandon n) old now m = tt
-none_entered (command.Undo names) old now m = tt
-none_entered (command.Redo names) old now m = tt
-none_entered (command.Exchange position) old now m = tt
+pub none_entered : (c : Request) (old now : Book) → Marks c old now → EntersNone c
+none_entered (request.Abandon n) old now m = tt
+none_entered (request.Undo names) old now m = tt
+none_entered (request.Redo names) old now m = tt
+none_entered (request.Exchange position) old now m = tt
 none_entered _ old now m = absurd m
 
 -- ---- the event of the last entry

@@ -5,8 +5,8 @@ ghost use Rattle.book.specs.Entered.{entered_in};
 
 use crate::books::{BUDGET, asked, begun, message, name, passed_on, program};
 use bench::Bench;
-use bench::command::Command;
 use bench::pick::Pick;
+use bench::request::Request;
 use bench::seat::{Opening, Seat};
 use bench::start::Begun;
 use book::fault::BookFault;
@@ -117,22 +117,22 @@ fn refuse_stale<L: Opening>(
     ticket
 }
 
-/// Does a command that enters an event of this number, or none.
+/// Does a request that enters an event of this number, or none.
 pub(crate) fn author<L: Opening>(
     rt: &(impl Wait + Abort),
     bench: &Bench<L>,
-    command: Command,
+    request: Request,
     seat: &mut Seat<L>,
     event: Option<u32>,
 ) {
-    match bench.author(rt, command, seat) {
+    match bench.author(rt, request, seat) {
         Ok(entered) => assert!(rt; entered == event.map(EventName)),
         Err(fault) => panic!(rt; "author: {fault}"),
     }
 }
 
-fn ask_alice(rt: &(impl Abort + AllocGlobal)) -> Command {
-    Command::Ask(name(rt, "alice"), program(rt, "1"))
+fn ask_alice(rt: &(impl Abort + AllocGlobal)) -> Request {
+    Request::Ask(name(rt, "alice"), program(rt, "1"))
 }
 
 /// These events alone.
@@ -173,10 +173,10 @@ fn strange_tickets<L: Opening, R: Wait + Abort + AllocGlobal>(
     assert!(rt; one.tally() == 1 && one.turns() == 1 && two.tally() == 0);
     // Abandoned, by another seat.
     let ran = run(rt, checkout(rt, &bench, &mut two, 8));
-    author(rt, &bench, Command::Abandon(EventName(8)), &mut one, None);
+    author(rt, &bench, Request::Abandon(EventName(8)), &mut one, None);
     assert!(rt;
         matches!(
-            bench.author(rt, Command::Abandon(EventName(8)), &mut one),
+            bench.author(rt, Request::Abandon(EventName(8)), &mut one),
             Err(BookFault::NoTicket)
         )
     );
@@ -224,7 +224,7 @@ fn moving_world<L: Opening, R: Wait + Abort + AllocGlobal>(
     author(
         rt,
         &bench,
-        Command::Learn(name(rt, "alice"), opening),
+        Request::Learn(name(rt, "alice"), opening),
         &mut author_seat,
         Some(17),
     );
@@ -235,7 +235,7 @@ fn moving_world<L: Opening, R: Wait + Abort + AllocGlobal>(
     author(
         rt,
         &bench,
-        Command::Undo(events(rt, 14)),
+        Request::Undo(events(rt, 14)),
         &mut author_seat,
         None,
     );
@@ -243,7 +243,7 @@ fn moving_world<L: Opening, R: Wait + Abort + AllocGlobal>(
     author(
         rt,
         &bench,
-        Command::Redo(events(rt, 14)),
+        Request::Redo(events(rt, 14)),
         &mut author_seat,
         None,
     );
@@ -253,7 +253,7 @@ fn moving_world<L: Opening, R: Wait + Abort + AllocGlobal>(
     author(
         rt,
         &bench,
-        Command::Undo(events(rt, 20)),
+        Request::Undo(events(rt, 20)),
         &mut author_seat,
         None,
     );
@@ -261,7 +261,7 @@ fn moving_world<L: Opening, R: Wait + Abort + AllocGlobal>(
     author(
         rt,
         &bench,
-        Command::Redo(events(rt, 20)),
+        Request::Redo(events(rt, 20)),
         &mut author_seat,
         None,
     );
