@@ -1,7 +1,7 @@
 //! Work at a Bench where others may be too.
 use crate::Bench;
+use crate::instruction::Instruction;
 use crate::pick::Pick;
-use crate::request::Request;
 use crate::seat::{Opening, Seat};
 use crate::workplace::Workplace;
 use book::fault::BookFault;
@@ -45,6 +45,6 @@ impl<L: Opening> Workplace<L> for Errand<'_, L> {
     }
 
     fn abandon<R: Wait>(&self, rt: &R, number: EventName, seat: &mut Seat<L>) {
-        let _ = self.bench.author(rt, Request::Abandon(number), seat);
+        let _ = self.bench.author(rt, Instruction::Abandon(number), seat);
     }
 }

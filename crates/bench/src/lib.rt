@@ -15,11 +15,11 @@ ghost use Rattle.bench.specs.Author.{Authored, mark_of, turn_of, Picked};
 ghost use Rattle.book.specs.declared.book.TheConstants.{MOST_STEPS};
 
 mod errand;
+pub mod instruction;
 mod last;
 pub mod once;
 pub mod pick;
 pub mod pile;
-pub mod request;
 pub mod seat;
 pub mod start;
 pub mod theorems;
@@ -29,8 +29,8 @@ pub mod work;
 mod workplace;
 mod workshop;
 
+use crate::instruction::Instruction;
 use crate::pick::Pick;
-use crate::request::Request;
 use crate::seat::{Opening, Seat};
 use crate::start::Begun;
 use crate::under_lock::SharedBook;
@@ -137,13 +137,15 @@ impl<L: Opening> Bench<L> {
     pub fn author<R: Wait>(
         &self,
         rt: &R,
-        request: Request,
+        instruction: Instruction,
         seat: &mut Seat<L>,
     ) -> Result<Option<EventName>, BookFault>
-        ensures ok { IfOk result (λ o. Authored request seat.old o seat.new) }
-        ensures err { IfErr result (λ fault. seat.new ≡ held seat.old (mark_of request)) }
+        ensures ok { IfOk result (λ o. Authored instruction seat.old o seat.new) }
+        ensures err { IfErr result (λ fault. seat.new ≡ held seat.old (mark_of instruction)) }
     {
-        self.shared.lock(rt).author(rt, &self.cell, request, seat)
+        self.shared
+            .lock(rt)
+            .author(rt, &self.cell, instruction, seat)
     }
 
     /// Ends the work. Of each seat that is handed in, the entries with its number are just its list, each once, and its tickets out are open;

@@ -13,9 +13,9 @@ ghost use Rattle.bench.specs.SharedBook.{held, refused, left_by, has_seat, Answe
 ghost use Rattle.book_crew.specs.Work.{IsGreatestSeat};
 ghost use Rattle.bench.specs.Author.{Obeys, Authored, Refuses, mark_of, turn_of, Picks, Picked, RefusesPick};
 
+use crate::instruction::{Instruction, obey};
 use crate::last::last_event;
 use crate::pick::{Pick, pick_first};
-use crate::request::{Request, obey};
 use crate::seat::{Opening, Seat};
 use bench_pact::{Act, PactCell, PactToken, add};
 use book::book::Book;
@@ -119,16 +119,16 @@ impl<L: Opening> SharedBook<L> {
         &mut self,
         rt: &R,
         cell: &PactCell,
-        request: Request,
+        instruction: Instruction,
         seat: &mut Seat<L>,
     ) -> Result<Option<EventName>, BookFault>
         requires { cell.now.table.shared.table_id ≡ L.table }
-        ensures ok { IfOk result (λ o. Obeys request seat.old.number o (book_of self.old.book) (book_of self.new.book) × Authored request seat.old o seat.new) }
-        ensures err { IfErr result (λ fault. Refuses request (book_of self.old.book) fault × (seat.new ≡ held seat.old (mark_of request)) × (book_of self.new.book ≡ book_of self.old.book)) }
+        ensures ok { IfOk result (λ o. Obeys instruction seat.old.number o (book_of self.old.book) (book_of self.new.book) × Authored instruction seat.old o seat.new) }
+        ensures err { IfErr result (λ fault. Refuses instruction (book_of self.old.book) fault × (seat.new ≡ held seat.old (mark_of instruction)) × (book_of self.new.book ≡ book_of self.old.book)) }
         ensures kept { (self.new.budget ≡ self.old.budget) × (self.new.made ≡ self.old.made) }
     {
-        let mark = request.mark();
-        match obey(&mut self.book, request, seat.number()) {
+        let mark = instruction.mark();
+        match obey(&mut self.book, instruction, seat.number()) {
             Ok(Some(event)) => {
                 let entered = last_event(&self.book);
                 seat.note(

@@ -8,8 +8,8 @@ ghost use Rattle.bench.specs.SharedBook.{events_of, held, refused, Returns};
 ghost use Rattle.bench.specs.Seats.{AreWork};
 ghost use Rattle.book_crew.specs.Work.{IsGreatestSeat, Worked};
 
+use crate::instruction::Instruction;
 use crate::pick::Pick;
-use crate::request::Request;
 use crate::seat::Seat;
 use crate::under_lock::SharedBook;
 use crate::workshop::Shift;
@@ -145,7 +145,9 @@ impl<L: Shift> WorkBook<L> {
         ensures { seat.new ≡ held seat.old (Closes number) }
     {
         self.untouched = false;
-        let _ = self.shared.author(rt, cell, Request::Abandon(number), seat);
+        let _ = self
+            .shared
+            .author(rt, cell, Instruction::Abandon(number), seat);
     }
 
     /// Ends the work: tickets that nobody gave are let go.

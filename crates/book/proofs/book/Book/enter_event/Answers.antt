@@ -17,7 +17,7 @@ use Rattle.book.proofs.Counting.{entered_counts}
 use Rattle.book.proofs.Noting.{Noted, noted_same, noted_next, written_alike}
 use Rattle.book.specs.BookView.{book_of}
 use Rattle.book.proofs.Within.{within_same, within_entered, one_more, room_for_names}
-use Rattle.book.proofs.book.Book.enter.Goals as goal
+use Rattle.book.proofs.book.Book.enter_event.Goals as goal
 
 pub invariant_of-self : goal.invariant_of-self
 invariant_of-self c = record { in_range = c.args.self.now.in_range; stands = stands_same c.args.self.now.core c.enter.new.self c.args.self.now.next (out_of c.args.self.now.desk) c.in_err-enter.ensures.err c.args.self.now.stands; within = within_same c.args.self.now.core c.enter.new.self c.in_err-enter.ensures.err c.enter.ensures.settled c.args.self.now.within; noted = noted_same c.args.self.now.core c.enter.new.self c.args.self.now.agenda c.in_err-enter.ensures.err c.args.self.now.noted }
