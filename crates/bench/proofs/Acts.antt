@@ -1,4 +1,4 @@
--- What a command or a step that is picked does to a book, as its seat sees it.
+-- What an instruction or a step that is picked does to a book, as its seat sees it.
 use Rattle.std.proofs.Common.{◌≡◌, ℕ, Some, [], ◌∷◌, ◌++◌, false, refl, ap, ◌∙◌}
 use Rattle.ids.specs.declared.names.EventName.{EventName}
 use Rattle.world_cells.specs.Events.{Act, Event}
@@ -7,36 +7,35 @@ use Rattle.world_cells.specs.declared.event.Event as code
 use Rattle.book_agenda.specs.declared.agenda.Step.{Step}
 use Rattle.book.specs.Books.{Book}
 use Rattle.bench_pact.specs.Agree.{strike, entered_by}
-use Rattle.bench.specs.declared.command.Command.{Command}
-use Rattle.bench.specs.declared.command.Command.TheVariants as command
+use Rattle.bench.specs.declared.instruction.Instruction.{Instruction}
+use Rattle.bench.specs.declared.instruction.Instruction.TheVariants as instruction
 use Rattle.bench.specs.declared.pick.Pick.TheVariants as pick
 use Rattle.book_crew.specs.Work.{is_turn}
-use Rattle.bench.specs.Desk.{Held, Returns}
+use Rattle.bench.specs.SharedBook.{Held, Returns}
 use Rattle.bench.specs.Author.{IsActOf, IsStep, Obeys, Picks, mark_of}
 use Rattle.bench.proofs.Agrees.{Grows}
-use Rattle.bench.proofs.Moves.{grows_act, act_of_command, command_no_turn, step_no_turn}
+use Rattle.bench.proofs.Moves.{grows_act, requested, request_no_turn, step_no_turn}
 
--- a command entered an event
-pub record Entering (c : Command) (e : EventName) (seat : ℕ) (old now : Book) : Type 0 where
+-- an instruction entered an event
+pub record Entering (c : Instruction) (e : EventName) (seat : ℕ) (old now : Book) : Type 0 where
   pub act : Act
-  pub of_command : IsActOf c act
+  pub of_instruction : IsActOf c act
   pub no_turn : is_turn act ≡ false
   pub grows : Grows (record { seat = seat; event = record { name = e; act = act } }) old now
   pub same_out : now.out ≡ old.out
   pub same_settled : now.settled ≡ old.settled
 
-pub entering : (c : Command) (e : EventName) (seat : ℕ) (old now : Book) → Obeys c seat (Some e) old now → Entering c e seat old now
-entering c e seat old now h =
-    let act = h.1.0 in
-    let enters = h.1.2 in
-    let of_command = act_of_command c old act h.1.1 in record {
-      act = act;
-      of_command = of_command;
-      no_turn = command_no_turn c act of_command;
-      grows = grows_act e act seat old now enters;
-      same_out = enters.enters.same_out;
-      same_settled = enters.enters.same_settled;
+pub entering : (c : Instruction) (e : EventName) (seat : ℕ) (old now : Book) → Obeys c seat (Some e) old now → Entering c e seat old now
+entering (instruction.Enter r) e seat old now h =
+    let it = requested r e seat old now h in record {
+      act = it.act;
+      of_instruction = it.of_request;
+      no_turn = request_no_turn r it.act it.of_request;
+      grows = grows_act e it.act seat old now it.enters;
+      same_out = it.enters.enters.same_out;
+      same_settled = it.enters.enters.same_settled;
     }
+entering _ e seat old now h = absurd h
 
 -- a step was done at once
 pub record Moving (e : EventName) (seat : ℕ) (old now : Book) : Type 0 where
@@ -60,16 +59,12 @@ moving budget seat e old now h = record {
 }
 
 -- what is marked enters nothing
-pub mark_enters_none : (c : Command) → entered_by (mark_of c) ≡ 0
-mark_enters_none (command.Abandon n) = refl
-mark_enters_none (command.Birth x earlier script) = refl
-mark_enters_none (command.Ask x program) = refl
-mark_enters_none (command.Arrive m) = refl
-mark_enters_none (command.Forward m) = refl
-mark_enters_none (command.Learn x p) = refl
-mark_enters_none (command.Undo names) = refl
-mark_enters_none (command.Redo names) = refl
-mark_enters_none (command.Exchange position) = refl
+pub mark_enters_none : (c : Instruction) → entered_by (mark_of c) ≡ 0
+mark_enters_none (instruction.Abandon n) = refl
+mark_enters_none (instruction.Enter r) = refl
+mark_enters_none (instruction.Undo names) = refl
+mark_enters_none (instruction.Redo names) = refl
+mark_enters_none (instruction.Exchange position) = refl
 
 -- a seat whose event is added, and of whose tickets one is struck out
 abbrev with_event : Held → code.Event → EventName → Held

@@ -25,7 +25,7 @@ use Rattle.bench_pact.specs.declared.Act.TheVariants.{Opens, Closes}
 use Rattle.bench_pact.specs.Agree.{blank, after, strike, knower}
 use Rattle.book.specs.Entered.{Entered, entered_in, IsAmong}
 use Rattle.bench.specs.Seats.{events_by}
-use Rattle.bench.specs.Desk.{Held, events_of, is_among, AreOpen, Answers, Agrees, IsDesk}
+use Rattle.bench.specs.SharedBook.{Held, events_of, is_among, AreOpen, Answers, Agrees, IsSharedBook}
 
 pub same_test : (a b : ℕ) → a ≡ b → (a == b) ≡ true
 same_test a b e = ⊎_elim (λ h. h.0) (λ h. absurd (h.1 e)) (eqb_tells a b)
@@ -150,11 +150,11 @@ length-set (x ∷ xs) (suc i) a = ap suc (length-set xs i a)
 abbrev Others : ℕ → ℕ → Book → Book → Type 0
 Others first place old now = (q : ℕ) (x : Deeds) → first + q ≢ first + place → Answers (first + q) x old → Answers (first + q) x now
 
-desk_act : (first made place : ℕ) (began : List Entered) (v w : TokenView) (old now : Book) (d d' : Deeds)
-    → IsDesk first made began v old → slice_get v.all place ≡ Some d → w ≡ knower (set v.all place d')
+shared_act : (first made place : ℕ) (began : List Entered) (v w : TokenView) (old now : Book) (d d' : Deeds)
+    → IsSharedBook first made began v old → slice_get v.all place ≡ Some d → w ≡ knower (set v.all place d')
     → (Answers (first + place) d old → Answers (first + place) d' now) → Others first place old now → IsAmong began (entered_in now.journal)
-    → IsDesk first made began w now
-desk_act first made place began v w old now d d' h at is mine others still =
+    → IsSharedBook first made began w now
+shared_act first made place began v w old now d d' h at is mine others still =
     let all : w.all ≡ set v.all place d' = ap (λ u. u.all) is in
     let P : List Deeds → Type 0 = λ l. Agrees first now l in record {
       keeps = is ∙ ap knower (sym all);
@@ -182,7 +182,7 @@ events_end : (d : Deeds) (numbers : List EventName) (added : code.Event) → eve
 events_end d numbers added = map-append event_of d.events (added ∷ [])
 
 module _ (first made place : ℕ) (began : List Entered) (v w : TokenView) (old now : Book) (d : Deeds) (e : Entered) (added : code.Event)
-    (h : IsDesk first made began v old) (at : slice_get v.all place ≡ Some d) (seat : e.seat ≡ first + place) (event : event_of added ≡ e.event) (grows : Grows e old now) where
+    (h : IsSharedBook first made began v old) (at : slice_get v.all place ≡ Some d) (seat : e.seat ≡ first + place) (event : event_of added ≡ e.event) (grows : Grows e old now) where
   mine_list : (numbers : List EventName) → Answers (first + place) d old → IsPermutation (events_by (first + place) (entered_in now.journal)) (events_of (record { events = d.events ++ added ∷ []; tickets = numbers }))
   mine_list numbers a =
       perm_as (events_by (first + place) (entered_in old.journal) ++ e.event ∷ []) (events_by (first + place) (entered_in now.journal)) (events_of d ++ e.event ∷ []) (events_of (record { events = d.events ++ added ∷ []; tickets = numbers }))
@@ -198,16 +198,16 @@ module _ (first made place : ℕ) (began : List Entered) (v w : TokenView) (old 
   still_among : IsAmong began (entered_in now.journal)
   still_among = among_more began (entered_in old.journal) (entered_in now.journal) e grows.journal h.still
 
-  pub desk_entered : now.out ≡ old.out → w ≡ knower (set v.all place (record { events = d.events ++ added ∷ []; tickets = d.tickets })) → IsDesk first made began w now
-  desk_entered out is =
-      desk_act first made place began v w old now d (record { events = d.events ++ added ∷ []; tickets = d.tickets }) h at is
+  pub shared_entered : now.out ≡ old.out → w ≡ knower (set v.all place (record { events = d.events ++ added ∷ []; tickets = d.tickets })) → IsSharedBook first made began w now
+  shared_entered out is =
+      shared_act first made place began v w old now d (record { events = d.events ++ added ∷ []; tickets = d.tickets }) h at is
       (λ a. record { list = mine_list d.tickets a; tickets = subst (λ (o : List Lent). AreOpen (first + place) o d.tickets) (sym out) a.tickets })
       (λ q x n a. record { list = other_list q x n a; tickets = subst (λ (o : List Lent). AreOpen (first + q) o x.tickets) (sym out) a.tickets })
       still_among
 
-  pub desk_given : (n : EventName) → now.out ≡ without n old.out → w ≡ knower (set v.all place (record { events = d.events ++ added ∷ []; tickets = strike n d.tickets })) → IsDesk first made began w now
-  desk_given n out is =
-      desk_act first made place began v w old now d (record { events = d.events ++ added ∷ []; tickets = strike n d.tickets }) h at is
+  pub shared_given : (n : EventName) → now.out ≡ without n old.out → w ≡ knower (set v.all place (record { events = d.events ++ added ∷ []; tickets = strike n d.tickets })) → IsSharedBook first made began w now
+  shared_given n out is =
+      shared_act first made place began v w old now d (record { events = d.events ++ added ∷ []; tickets = strike n d.tickets }) h at is
       (λ a. record { list = mine_list (strike n d.tickets) a; tickets = subst (λ (o : List Lent). AreOpen (first + place) o (strike n d.tickets)) (sym out) (open_strike (first + place) n old.out d.tickets a.tickets) })
       (λ q x ne a. record { list = other_list q x ne a; tickets = subst (λ (o : List Lent). AreOpen (first + q) o x.tickets) (sym out) (open_without (first + q) n old.out x.tickets a.tickets) })
       still_among
@@ -227,30 +227,30 @@ rests_same old now is = record {
 }
 
 module _ (first made place : ℕ) (began : List Entered) (v w : TokenView) (old now : Book) (d : Deeds)
-    (h : IsDesk first made began v old) (at : slice_get v.all place ≡ Some d) (rests : Rests old now) where
+    (h : IsSharedBook first made began v old) (at : slice_get v.all place ≡ Some d) (rests : Rests old now) where
   rest_list : (s : ℕ) (x : Deeds) → Answers s x old → IsPermutation (events_by s (entered_in now.journal)) (events_of x)
   rest_list s x a = IsPermutation-trans (events_by s (entered_in now.journal)) (events_by s (entered_in old.journal)) (events_of x) (rests.each s) a.list
 
   rest_among : IsAmong began (entered_in now.journal)
   rest_among = let k = h.still in (k.0, IsPermutation-trans (entered_in now.journal) (entered_in old.journal) (began ++ k.0) rests.all k.1)
 
-  pub desk_rested : now.out ≡ old.out → w ≡ knower (set v.all place d) → IsDesk first made began w now
-  desk_rested out is =
-      desk_act first made place began v w old now d d h at is
+  pub shared_rested : now.out ≡ old.out → w ≡ knower (set v.all place d) → IsSharedBook first made began w now
+  shared_rested out is =
+      shared_act first made place began v w old now d d h at is
       (λ a. record { list = rest_list (first + place) d a; tickets = subst (λ (o : List Lent). AreOpen (first + place) o d.tickets) (sym out) a.tickets })
       (λ q x n a. record { list = rest_list (first + q) x a; tickets = subst (λ (o : List Lent). AreOpen (first + q) o x.tickets) (sym out) a.tickets })
       rest_among
 
-  pub desk_closed : (n : EventName) → now.out ≡ without n old.out → w ≡ knower (set v.all place (after (Closes n) d)) → IsDesk first made began w now
-  desk_closed n out is =
-      desk_act first made place began v w old now d (after (Closes n) d) h at is
+  pub shared_closed : (n : EventName) → now.out ≡ without n old.out → w ≡ knower (set v.all place (after (Closes n) d)) → IsSharedBook first made began w now
+  shared_closed n out is =
+      shared_act first made place began v w old now d (after (Closes n) d) h at is
       (λ a. record { list = rest_list (first + place) d a; tickets = subst (λ (o : List Lent). AreOpen (first + place) o (strike n d.tickets)) (sym out) (open_strike (first + place) n old.out d.tickets a.tickets) })
       (λ q x ne a. record { list = rest_list (first + q) x a; tickets = subst (λ (o : List Lent). AreOpen (first + q) o x.tickets) (sym out) (open_without (first + q) n old.out x.tickets a.tickets) })
       rest_among
 
-  pub desk_opened : (t : Lent) → t.seat ≡ first + place → now.out ≡ old.out ++ t ∷ [] → w ≡ knower (set v.all place (after (Opens t.number) d)) → IsDesk first made began w now
-  desk_opened t seat out is =
-      desk_act first made place began v w old now d (after (Opens t.number) d) h at is
+  pub shared_opened : (t : Lent) → t.seat ≡ first + place → now.out ≡ old.out ++ t ∷ [] → w ≡ knower (set v.all place (after (Opens t.number) d)) → IsSharedBook first made began w now
+  shared_opened t seat out is =
+      shared_act first made place began v w old now d (after (Opens t.number) d) h at is
       (λ a. record {
         list = rest_list (first + place) d a;
         tickets = subst (λ (o : List Lent). AreOpen (first + place) o (d.tickets ++ t.number ∷ [])) (sym out) (all_append _ old.out (t ∷ []) (open_end (first + place) t.number old.out d.tickets a.tickets) ((λ _. among_last t.number d.tickets), tt));
@@ -266,8 +266,8 @@ module _ (first made place : ℕ) (began : List Entered) (v w : TokenView) (old 
 pub below_next : {A : Type 0} (f : A → ℕ) (n : ℕ) (xs : List A) → All (λ x. f x ≤ n) xs → All (λ x. f x < n + 1) xs
 below_next f n xs all k d h = let a = all k d h in omega (arith, a)
 
-pub no_desk : (first : ℕ) (began : List Entered) (v : TokenView) (b : Book) → v ≡ knower [] → entered_in b.journal ≡ began → All (λ l. l.seat < first) b.journal → All (λ t. t.seat < first) b.out → IsDesk first 0 began v b
-no_desk first began v b is same entries tickets =
+pub none_seated : (first : ℕ) (began : List Entered) (v : TokenView) (b : Book) → v ≡ knower [] → entered_in b.journal ≡ began → All (λ l. l.seat < first) b.journal → All (λ t. t.seat < first) b.out → IsSharedBook first 0 began v b
+none_seated first began v b is same entries tickets =
     let none : v.all ≡ [] = ap (λ w. w.all) is in
     let P : List Deeds → Type 0 = λ l. Agrees first b l in record {
       keeps = is ∙ ap knower (sym none);
@@ -285,7 +285,7 @@ at_blank [] (suc q) = refl
 at_blank (x ∷ xs) zero = refl
 at_blank (x ∷ xs) (suc q) = at_blank xs q
 
-pub one_more : (first made n : ℕ) (began : List Entered) (v w : TokenView) (b : Book) → IsDesk first made began v b → n ≡ made + 1 → w ≡ knower (v.all ++ blank ∷ []) → IsDesk first n began w b
+pub one_more : (first made n : ℕ) (began : List Entered) (v w : TokenView) (b : Book) → IsSharedBook first made began v b → n ≡ made + 1 → w ≡ knower (v.all ++ blank ∷ []) → IsSharedBook first n began w b
 one_more first made n began v w b h more is =
     let all : w.all ≡ v.all ++ blank ∷ [] = ap (λ u. u.all) is in
     let P : List Deeds → Type 0 = λ l. Agrees first b l in
@@ -297,11 +297,11 @@ one_more first made n began v w b h more is =
     }
 
 -- a seat's list is just the entries with its number
-pub met : (first made place : ℕ) (began : List Entered) (v : TokenView) (b : Book) (d : Deeds) → IsDesk first made began v b → slice_get v.all place ≡ Some d → Answers (first + place) d b
+pub met : (first made place : ℕ) (began : List Entered) (v : TokenView) (b : Book) (d : Deeds) → IsSharedBook first made began v b → slice_get v.all place ≡ Some d → Answers (first + place) d b
 met first made place began v b d h at = let Q : Deeds → Type 0 = λ x. Answers (first + place) x b in subst Q (get_or_from_slice_get v.all place d blank at) (h.agrees place)
 
 -- and so it has no more than there are entries
-pub few_events : (first made place : ℕ) (began : List Entered) (v : TokenView) (b : Book) (d : Deeds) → IsDesk first made began v b → length b.journal + 1 < 2 ^ 64 → slice_get v.all place ≡ Some d → length d.events + 1 < 2 ^ 64
+pub few_events : (first made place : ℕ) (began : List Entered) (v : TokenView) (b : Book) (d : Deeds) → IsSharedBook first made began v b → length b.journal + 1 < 2 ^ 64 → slice_get v.all place ≡ Some d → length d.events + 1 < 2 ^ 64
 few_events first made place began v b d h within at =
     let a = met first made place began v b d h at in
     let n = length_permutation (events_by (first + place) (entered_in b.journal)) (events_of d) a.list in

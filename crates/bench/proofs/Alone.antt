@@ -4,7 +4,7 @@ use Rattle.ids.specs.declared.names.EventName.{EventName}
 use Rattle.book.specs.declared.fault.BookFault.{BookFault}
 use Rattle.book.specs.declared.fault.BookFault.TheVariants as fault
 use Rattle.bench_pact.specs.Agree.{strike}
-use Rattle.bench.specs.Desk.{Held, refused}
+use Rattle.bench.specs.SharedBook.{Held, refused}
 use Rattle.bench.proofs.Agrees.{same_test}
 
 pub struck_alone : (n : EventName) (ns : List EventName) → ns ≡ n ∷ [] → strike n ns ≡ []

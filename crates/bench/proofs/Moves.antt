@@ -5,9 +5,10 @@ use Rattle.std.proofs.lemmas.List.{length-map}
 use Rattle.std.proofs.lemmas.List.Sorted.{IsPermutation-refl, IsPermutation-cons, IsPermutation-middle}
 use Rattle.std.proofs.lemmas.Option.{slice_get-map}
 use Rattle.ids.specs.declared.names.EventName.{EventName}
-use Rattle.world_cells.specs.Events.{Act, Noted, event_in, with_notes}
+use Rattle.world_cells.specs.Events.{Act, birth, ask, arrive, forward, learn, Noted, event_in, with_notes}
+use Rattle.kernele.specs.View.{program_of}
 use Rattle.world_cells.specs.EventView.{event_of}
-use Rattle.event.specs.Events.{Foot}
+use Rattle.event.specs.Events.{Foot, birth_foot, ask_foot}
 use Rattle.book_agenda.specs.declared.agenda.Step.{Step}
 use Rattle.book_agenda.specs.declared.agenda.Step.TheVariants as step
 use Rattle.journal.specs.Items.{item_of, exchanged}
@@ -24,6 +25,9 @@ use Rattle.book.specs.BookView.{book_of}
 use Rattle.book.specs.declared.book.Book as code-book
 use Rattle.book.specs.Calls.{Enters, Undoes, Redoes, Exchanges, undone, redone}
 use Rattle.book.specs.Refusals.{exchange_refusal}
+use Rattle.book.specs.Requests.{EntersRequest}
+use Rattle.book.specs.declared.request.Request.{Request}
+use Rattle.book.specs.declared.request.Request.TheVariants as request
 use Rattle.book.specs.declared.fault.BookFault.{BookFault}
 use Rattle.book.specs.declared.fault.BookFault.TheVariants.{NoTicket}
 use Rattle.book.proofs.TicketsOut.{not_out}
@@ -31,14 +35,14 @@ use Rattle.bench_pact.specs.declared.TokenView.{TokenView}
 use Rattle.bench_pact.specs.declared.Deeds.{Deeds}
 use Rattle.bench_pact.specs.Agree.{after, knower}
 use Rattle.std.specs.Prelude.{slice_set}
-use Rattle.bench.specs.declared.command.Command.{Command}
-use Rattle.bench.specs.declared.command.Command.TheVariants as command
+use Rattle.bench.specs.declared.instruction.Instruction.{Instruction}
+use Rattle.bench.specs.declared.instruction.Instruction.TheVariants as instruction
 use Rattle.book.specs.Entered.{Entered, entered_in}
 use Rattle.book_crew.specs.Work.{is_turn}
 use Rattle.bench.specs.Seats.{events_by}
-use Rattle.bench.specs.Desk.{IsDesk}
-use Rattle.bench.specs.Author.{IsEntered, IsActOf, IsStep, EntersAct, Marks, EntersNone, Refuses, command_refusal, mark_of}
-use Rattle.bench.proofs.Agrees.{entry, Grows, grown, Rests, rests_same, desk_rested, desk_closed}
+use Rattle.bench.specs.SharedBook.{IsSharedBook}
+use Rattle.bench.specs.Author.{IsRequested, IsStep, EntersAct, Marks, EntersNone, Refuses, instruction_refusal, mark_of}
+use Rattle.bench.proofs.Agrees.{entry, Grows, grown, Rests, rests_same, shared_rested, shared_closed}
 
 -- ---- an event is entered
 pub grows : (e : Noted) (f : Foot) (seat : ℕ) (old now : Book) → Enters e f seat old now → Grows (record { seat = seat; event = event_in e }) old now
@@ -47,22 +51,33 @@ grows e f seat old now h = grown old now h.line (record { seat = seat; event = e
 pub grows_act : (e : EventName) (act : Act) (seat : ℕ) (old now : Book) → EntersAct e act seat old now → Grows (record { seat = seat; event = record { name = e; act = act } }) old now
 grows_act e act seat old now h = grows (with_notes (record { name = e; act = act }) []) h.foot seat old now h.enters.enters
 
--- of which events the acts are
-pub act_of_command : (c : Command) (b : Book) (act : Act) → IsEntered c b act → IsActOf c act
-act_of_command (command.Birth x earlier script) b act h = h
-act_of_command (command.Ask x program) b act h = h
-act_of_command (command.Arrive m) b act h = h
-act_of_command (command.Forward m) b act h = h
-act_of_command (command.Learn x p) b act h = (h.0.number, h.2)
-act_of_command _ b act h = absurd h
+-- what is asked for is entered as an event of this act
+pub record Requested (r : Request) (e : EventName) (seat : ℕ) (old now : Book) : Type 0 where
+  pub act : Act
+  pub of_request : IsRequested r act
+  pub enters : EntersAct e act seat old now
 
-pub command_no_turn : (c : Command) (act : Act) → IsActOf c act → is_turn act ≡ false
-command_no_turn (command.Birth x earlier script) act h = ap is_turn h
-command_no_turn (command.Ask x program) act h = ap is_turn h
-command_no_turn (command.Arrive m) act h = ap is_turn h
-command_no_turn (command.Forward m) act h = ap is_turn h
-command_no_turn (command.Learn x p) act h = ap is_turn h.1
-command_no_turn _ act h = absurd h
+pub requested : (r : Request) (e : EventName) (seat : ℕ) (old now : Book) → EntersRequest r seat e old now → Requested r e seat old now
+requested (request.Birth x earlier script) e seat old now h = record {
+  act = birth x earlier.items (program_of script);
+  of_request = refl;
+  enters = record { foot = birth_foot e x earlier.items h.1.0 (program_of script); enters = h.1.1 };
+}
+requested (request.Ask x program) e seat old now h = record {
+  act = ask x (program_of program);
+  of_request = refl;
+  enters = record { foot = ask_foot e x h.1.0 (program_of program); enters = h.1.1 };
+}
+requested (request.Arrive m) e seat old now h = record { act = arrive m; of_request = refl; enters = record { foot = h.1.0; enters = h.1.1 } }
+requested (request.Forward m) e seat old now h = record { act = forward m; of_request = refl; enters = record { foot = h.1.0; enters = h.1.1 } }
+requested (request.Learn v p) e seat old now h = record { act = learn v p; of_request = refl; enters = record { foot = h.1.0; enters = h.1.1 } }
+
+pub request_no_turn : (r : Request) (act : Act) → IsRequested r act → is_turn act ≡ false
+request_no_turn (request.Birth x earlier script) act h = ap is_turn h
+request_no_turn (request.Ask x program) act h = ap is_turn h
+request_no_turn (request.Arrive m) act h = ap is_turn h
+request_no_turn (request.Forward m) act h = ap is_turn h
+request_no_turn (request.Learn v p) act h = ap is_turn h
 
 pub step_no_turn : (s : Step) (act : Act) → IsStep s act → is_turn act ≡ false
 step_no_turn (step.Arrive m) act h = ap is_turn h
@@ -137,44 +152,40 @@ rests_exchanged : (position : ℕ) (old now : Book) → exchange_refusal old.set
 rests_exchanged zero old now accepted h = absurd (cc)
 rests_exchanged (suc n) old now accepted h = rests_moved n old now (h.places n (omega arith))
 
--- ---- what lies under the lock, after a command that enters no event, or one that is refused
-pub marked : (c : Command) (first made place : ℕ) (began : List Entered) (v w : TokenView) (old now : Book) (d : Deeds)
-    → IsDesk first made began v old → slice_get v.all place ≡ Some d → command_refusal c old ≡ None → Marks c old now → w ≡ knower (slice_set v.all place (after (mark_of c) d))
-    → IsDesk first made began w now × Rests old now
-marked (command.Abandon n) first made place began v w old now d h at accepted m is =
+-- ---- what lies under the lock, after an instruction that enters no event, or one that is refused
+pub marked : (c : Instruction) (first made place : ℕ) (began : List Entered) (v w : TokenView) (old now : Book) (d : Deeds)
+    → IsSharedBook first made began v old → slice_get v.all place ≡ Some d → instruction_refusal c old ≡ None → Marks c old now → w ≡ knower (slice_set v.all place (after (mark_of c) d))
+    → IsSharedBook first made began w now × Rests old now
+marked (instruction.Abandon n) first made place began v w old now d h at accepted m is =
     let rests = rests_same old now (ap (λ b. b.journal) m) in
-    (desk_closed first made place began v w old now d h at rests n (ap (λ b. b.out) m) is, rests)
-marked (command.Undo names) first made place began v w old now d h at accepted m is =
+    (shared_closed first made place began v w old now d h at rests n (ap (λ b. b.out) m) is, rests)
+marked (instruction.Undo names) first made place began v w old now d h at accepted m is =
     let rests = rests_undone names.items old now m in
-    (desk_rested first made place began v w old now d h at rests m.same_out is, rests)
-marked (command.Redo names) first made place began v w old now d h at accepted m is =
+    (shared_rested first made place began v w old now d h at rests m.same_out is, rests)
+marked (instruction.Redo names) first made place began v w old now d h at accepted m is =
     let rests = rests_redone names.items old now m in
-    (desk_rested first made place began v w old now d h at rests m.same_out is, rests)
-marked (command.Exchange position) first made place began v w old now d h at accepted m is =
+    (shared_rested first made place began v w old now d h at rests m.same_out is, rests)
+marked (instruction.Exchange position) first made place began v w old now d h at accepted m is =
     let rests = rests_exchanged position old now accepted m in
-    (desk_rested first made place began v w old now d h at rests m.same_out is, rests)
+    (shared_rested first made place began v w old now d h at rests m.same_out is, rests)
 marked _ first made place began v w old now d h at accepted m is = absurd m
 
-pub refused_marked : (c : Command) (fault : BookFault) (first made place : ℕ) (began : List Entered) (v w : TokenView) (old now : Book) (d : Deeds)
-    → IsDesk first made began v old → slice_get v.all place ≡ Some d → Refuses c old fault → now ≡ old → w ≡ knower (slice_set v.all place (after (mark_of c) d))
-    → IsDesk first made began w now × Rests old now
-refused_marked (command.Abandon n) fault first made place began v w old now d h at refused same is =
+pub refused_marked : (c : Instruction) (fault : BookFault) (first made place : ℕ) (began : List Entered) (v w : TokenView) (old now : Book) (d : Deeds)
+    → IsSharedBook first made began v old → slice_get v.all place ≡ Some d → Refuses c old fault → now ≡ old → w ≡ knower (slice_set v.all place (after (mark_of c) d))
+    → IsSharedBook first made began w now × Rests old now
+refused_marked (instruction.Abandon n) fault first made place began v w old now d h at refused same is =
     let rests = rests_same old now (ap (λ b. b.journal) same) in
-    (desk_closed first made place began v w old now d h at rests n (ap (λ b. b.out) same ∙ sym (not_out n old.out refused.1)) is, rests)
-refused_marked (command.Birth x earlier script) fault first made place began v w old now d h at refused same is = let rests = rests_same old now (ap (λ b. b.journal) same) in (desk_rested first made place began v w old now d h at rests (ap (λ b. b.out) same) is, rests)
-refused_marked (command.Ask x program) fault first made place began v w old now d h at refused same is = let rests = rests_same old now (ap (λ b. b.journal) same) in (desk_rested first made place began v w old now d h at rests (ap (λ b. b.out) same) is, rests)
-refused_marked (command.Arrive m) fault first made place began v w old now d h at refused same is = let rests = rests_same old now (ap (λ b. b.journal) same) in (desk_rested first made place began v w old now d h at rests (ap (λ b. b.out) same) is, rests)
-refused_marked (command.Forward m) fault first made place began v w old now d h at refused same is = let rests = rests_same old now (ap (λ b. b.journal) same) in (desk_rested first made place began v w old now d h at rests (ap (λ b. b.out) same) is, rests)
-refused_marked (command.Learn x p) fault first made place began v w old now d h at refused same is = let rests = rests_same old now (ap (λ b. b.journal) same) in (desk_rested first made place began v w old now d h at rests (ap (λ b. b.out) same) is, rests)
-refused_marked (command.Undo names) fault first made place began v w old now d h at refused same is = let rests = rests_same old now (ap (λ b. b.journal) same) in (desk_rested first made place began v w old now d h at rests (ap (λ b. b.out) same) is, rests)
-refused_marked (command.Redo names) fault first made place began v w old now d h at refused same is = let rests = rests_same old now (ap (λ b. b.journal) same) in (desk_rested first made place began v w old now d h at rests (ap (λ b. b.out) same) is, rests)
-refused_marked (command.Exchange position) fault first made place began v w old now d h at refused same is = let rests = rests_same old now (ap (λ b. b.journal) same) in (desk_rested first made place began v w old now d h at rests (ap (λ b. b.out) same) is, rests)
+    (shared_closed first made place began v w old now d h at rests n (ap (λ b. b.out) same ∙ sym (not_out n old.out refused.1)) is, rests)
+refused_marked (instruction.Enter r) fault first made place began v w old now d h at refused same is = let rests = rests_same old now (ap (λ b. b.journal) same) in (shared_rested first made place began v w old now d h at rests (ap (λ b. b.out) same) is, rests)
+refused_marked (instruction.Undo names) fault first made place began v w old now d h at refused same is = let rests = rests_same old now (ap (λ b. b.journal) same) in (shared_rested first made place began v w old now d h at rests (ap (λ b. b.out) same) is, rests)
+refused_marked (instruction.Redo names) fault first made place began v w old now d h at refused same is = let rests = rests_same old now (ap (λ b. b.journal) same) in (shared_rested first made place began v w old now d h at rests (ap (λ b. b.out) same) is, rests)
+refused_marked (instruction.Exchange position) fault first made place began v w old now d h at refused same is = let rests = rests_same old now (ap (λ b. b.journal) same) in (shared_rested first made place began v w old now d h at rests (ap (λ b. b.out) same) is, rests)
 
-pub none_entered : (c : Command) (old now : Book) → Marks c old now → EntersNone c
-none_entered (command.Abandon n) old now m = tt
-none_entered (command.Undo names) old now m = tt
-none_entered (command.Redo names) old now m = tt
-none_entered (command.Exchange position) old now m = tt
+pub none_entered : (c : Instruction) (old now : Book) → Marks c old now → EntersNone c
+none_entered (instruction.Abandon n) old now m = tt
+none_entered (instruction.Undo names) old now m = tt
+none_entered (instruction.Redo names) old now m = tt
+none_entered (instruction.Exchange position) old now m = tt
 none_entered _ old now m = absurd m
 
 -- ---- the event of the last entry

@@ -29,9 +29,9 @@ use Rattle.book_crew.specs.Work.{is_work, IsFromWorker, IsGreatestSeat, Worked, 
 use Rattle.bench_pact.specs.declared.Act.TheVariants.{Closes}
 use Rattle.bench.specs.declared.pick.Pick.{Pick}
 use Rattle.bench.specs.declared.pick.Pick.TheVariants as pick
-use Rattle.bench.specs.declared.command.Command.TheVariants as command
+use Rattle.bench.specs.declared.instruction.Instruction.TheVariants as instruction
 use Rattle.bench.specs.Author.{IsStep, Obeys, Picked, Picks, turn_of}
-use Rattle.bench.specs.Desk.{Held, Returns, events_of, held, left_by, refused}
+use Rattle.bench.specs.SharedBook.{Held, Returns, events_of, held, left_by, refused}
 use Rattle.bench.specs.Seats.{AreWork}
 use Rattle.bench.proofs.Moves.{step_no_turn}
 use Rattle.bench.specs.Workshop.{IsLent, IsWorkshop, lent_after}
@@ -292,7 +292,7 @@ given_back_work fault (Err x) t old now ok err all = refused_work (fault x) t.ca
 module _ (before seats most : ℕ) (began : Book) (left given first behind : ℕ) (untouched : Bool) (old now : Book)
     (h : IsWorkshop before seats most began left given first behind untouched old) where
   pub shop_abandoned : (n : EventName) (seat : ℕ) (r : Result (Option EventName) BookFault)
-      → IfOk r (λ o. Obeys (command.Abandon n) seat o old now) → IfErr r (λ f. now ≡ old) → IsWorkshop before seats most began left given first behind false now
-  shop_abandoned n seat (Ok (Some e)) ok err = absurd ok.1.1
+      → IfOk r (λ o. Obeys (instruction.Abandon n) seat o old now) → IfErr r (λ f. now ≡ old) → IsWorkshop before seats most began left given first behind false now
+  shop_abandoned n seat (Ok (Some e)) ok err = absurd ok
   shop_abandoned n seat (Ok None) ok err = shop_let_go before seats most began left given first behind untouched old now h n ok.1
   shop_abandoned n seat (Err f) ok err = shop_touched before seats most began left given first behind untouched old now h err

@@ -1,12 +1,9 @@
--- What commands do, to a book and to the seat that they come through.
+-- What instructions do, to a book and to the seat that they come through.
 use Rattle.std.specs.Prelude.{◌≡◌, ◌⊎◌, ℕ, false, not, Option, Some, None, IsSome}
 use Rattle.ids.specs.declared.names.EventName.{EventName}
 use Rattle.ids.specs.declared.names.MsgId.{MsgId}
-use Rattle.ids.specs.declared.names.VatNo.{VatNo}
 use Rattle.kernele.specs.View.{program_of}
 use Rattle.world_cells.specs.Events.{Act, birth, ask, arrive, forward, learn, turn, Event}
-use Rattle.world_cells.specs.World.{vat_named}
-use Rattle.post.specs.Messages.{Vat}
 use Rattle.event.specs.Events.{Foot}
 use Rattle.book_agenda.specs.Enabled.{First}
 use Rattle.book_agenda.specs.declared.agenda.Step.{Step}
@@ -18,84 +15,83 @@ use Rattle.book.specs.Calls.{EntersNext, Lends, Undoes, Redoes, Exchanges}
 use Rattle.book.specs.Fault.{Tells, told_by}
 use Rattle.book.specs.declared.fault.BookFault.{BookFault}
 use Rattle.book.specs.declared.fault.BookFault.TheVariants.{NoTicket, Memory}
-use Rattle.book.specs.Refusals.{Refusal, first, budget_refusal, full_refusal, birth_refusal, ask_refusal, arrival_refusal, forward_refusal, learn_refusal, undo_refusal, redo_refusal, exchange_refusal, refuse_where, no_ticket}
+use Rattle.book.specs.Refusals.{Refusal, first, budget_refusal, full_refusal, undo_refusal, redo_refusal, exchange_refusal, refuse_where, no_ticket}
+use Rattle.book.specs.Requests.{EntersRequest, request_refusal}
+use Rattle.book.specs.declared.request.Request.{Request}
+use Rattle.book.specs.declared.request.Request.TheVariants as request
 use Rattle.bench_pact.specs.declared.Act as pact
 use Rattle.bench_pact.specs.declared.Act.TheVariants.{Nothing, Opens, Closes}
-use Rattle.bench.specs.declared.command.Command.{Command}
-use Rattle.bench.specs.declared.command.Command.TheVariants as command
+use Rattle.bench.specs.declared.instruction.Instruction.{Instruction}
+use Rattle.bench.specs.declared.instruction.Instruction.TheVariants as instruction
 use Rattle.bench.specs.declared.pick.Pick.{Pick}
 use Rattle.bench.specs.declared.pick.Pick.TheVariants as pick
-use Rattle.bench.specs.Desk.{Held, held, Adds}
+use Rattle.bench.specs.SharedBook.{Held, held, Adds}
 
 -- an event of this act is entered from a seat, under the name that comes next
 pub record EntersAct (e : EventName) (act : Act) (seat : ℕ) (old now : Book) : Type 0 where
   pub foot : Foot
   pub enters : EntersNext (record { name = e; act = act }) foot seat old now
 
--- a command enters an event of this act; what is learnt, by the vat of that name
-abbrev pub IsEntered : Command → Book → Act → Type 0
-IsEntered (command.Birth x earlier script) b act = act ≡ birth x earlier.items (program_of script)
-IsEntered (command.Ask x program) b act = act ≡ ask x (program_of program)
-IsEntered (command.Arrive m) b act = act ≡ arrive m
-IsEntered (command.Forward m) b act = act ≡ forward m
-IsEntered (command.Learn x p) b act = (v : Vat) × (vat_named b.world x ≡ Some v) × (act ≡ learn v.number p)
-IsEntered _ b act = ⊥
+-- an instruction enters an event
+abbrev pub IsEntered : Instruction → ℕ → EventName → Book → Book → Type 0
+IsEntered (instruction.Enter r) seat e old now = EntersRequest r seat e old now
+IsEntered _ seat e old now = ⊥
 
--- a command that enters none lets a ticket go, or marks entries or moves them
-abbrev pub Marks : Command → Book → Book → Type 0
-Marks (command.Abandon n) old now = now ≡ record old { out = without n old.out }
-Marks (command.Undo names) old now = Undoes names.items old now
-Marks (command.Redo names) old now = Redoes names.items old now
-Marks (command.Exchange position) old now = Exchanges position old now
+-- an instruction that enters none lets a ticket go, or marks entries or moves them
+abbrev pub Marks : Instruction → Book → Book → Type 0
+Marks (instruction.Abandon n) old now = now ≡ record old { out = without n old.out }
+Marks (instruction.Undo names) old now = Undoes names.items old now
+Marks (instruction.Redo names) old now = Redoes names.items old now
+Marks (instruction.Exchange position) old now = Exchanges position old now
 Marks _ old now = ⊥
 
--- the first refusal of a command that holds, if one does
-abbrev pub command_refusal : Command → Book → Option Refusal
-command_refusal (command.Birth x earlier script) b = birth_refusal b x earlier.items (program_of script)
-command_refusal (command.Ask x program) b = ask_refusal b x (program_of program)
-command_refusal (command.Arrive m) b = arrival_refusal b m
-command_refusal (command.Forward m) b = forward_refusal b m
-command_refusal (command.Learn x p) b = learn_refusal b x p
-command_refusal (command.Abandon n) b = refuse_where (not (is_out n b.out)) no_ticket
-command_refusal (command.Undo names) b = undo_refusal b.settled b.journal names.items
-command_refusal (command.Redo names) b = redo_refusal b.settled b.journal names.items
-command_refusal (command.Exchange position) b = exchange_refusal b.settled b.journal position
+-- the first refusal of an instruction that holds, if one does
+abbrev pub instruction_refusal : Instruction → Book → Option Refusal
+instruction_refusal (instruction.Enter r) b = request_refusal r b
+instruction_refusal (instruction.Abandon n) b = refuse_where (not (is_out n b.out)) no_ticket
+instruction_refusal (instruction.Undo names) b = undo_refusal b.settled b.journal names.items
+instruction_refusal (instruction.Redo names) b = redo_refusal b.settled b.journal names.items
+instruction_refusal (instruction.Exchange position) b = exchange_refusal b.settled b.journal position
 
--- a fault tells why a command is refused, unless it is want of memory, of which an abandoned ticket and an exchange take none
-abbrev pub Refuses : Command → Book → BookFault → Type 0
-Refuses (command.Abandon n) b fault = (fault ≡ NoTicket) × (is_out n b.out ≡ false)
-Refuses (command.Exchange position) b fault = IsSome (told_by fault) × Tells fault (exchange_refusal b.settled b.journal position)
-Refuses c b fault = Tells fault (command_refusal c b)
+-- a fault tells why an instruction is refused, unless it is want of memory, of which an abandoned ticket and an exchange take none
+abbrev pub Refuses : Instruction → Book → BookFault → Type 0
+Refuses (instruction.Abandon n) b fault = (fault ≡ NoTicket) × (is_out n b.out ≡ false)
+Refuses (instruction.Exchange position) b fault = IsSome (told_by fault) × Tells fault (exchange_refusal b.settled b.journal position)
+Refuses c b fault = Tells fault (instruction_refusal c b)
 
--- what an accepted command does to a book, from a seat; it answers the name of a new event, where it enters one
-abbrev pub Obeys : Command → ℕ → Option EventName → Book → Book → Type 0
-Obeys c seat (Some e) old now = (command_refusal c old ≡ None) × ((act : Act) × IsEntered c old act × EntersAct e act seat old now)
-Obeys c seat None old now = (command_refusal c old ≡ None) × Marks c old now
+-- what an accepted instruction does to a book, from a seat; it answers the name of a new event, where it enters one
+abbrev pub Obeys : Instruction → ℕ → Option EventName → Book → Book → Type 0
+Obeys c seat (Some e) old now = IsEntered c seat e old now
+Obeys c seat None old now = (instruction_refusal c old ≡ None) × Marks c old now
 
--- what a seat notes of a command that enters no event, or that is refused: an abandoned ticket is no longer open
-abbrev pub mark_of : Command → pact.Act
-mark_of (command.Abandon n) = Closes n
+-- what a seat notes of an instruction that enters no event, or that is refused: an abandoned ticket is no longer open
+abbrev pub mark_of : Instruction → pact.Act
+mark_of (instruction.Abandon n) = Closes n
 mark_of _ = Nothing
 
--- the act of the event that a command enters
-abbrev pub IsActOf : Command → Act → Type 0
-IsActOf (command.Birth x earlier script) act = act ≡ birth x earlier.items (program_of script)
-IsActOf (command.Ask x program) act = act ≡ ask x (program_of program)
-IsActOf (command.Arrive m) act = act ≡ arrive m
-IsActOf (command.Forward m) act = act ≡ forward m
-IsActOf (command.Learn x p) act = (v : VatNo) × (act ≡ learn v p)
+-- the act of the event that a request asks for
+abbrev pub IsRequested : Request → Act → Type 0
+IsRequested (request.Birth x earlier script) act = act ≡ birth x earlier.items (program_of script)
+IsRequested (request.Ask x program) act = act ≡ ask x (program_of program)
+IsRequested (request.Arrive m) act = act ≡ arrive m
+IsRequested (request.Forward m) act = act ≡ forward m
+IsRequested (request.Learn v p) act = act ≡ learn v p
+
+-- the act of the event that an instruction enters
+abbrev pub IsActOf : Instruction → Act → Type 0
+IsActOf (instruction.Enter r) act = IsRequested r act
 IsActOf _ act = ⊥
 
--- commands that enter none
-abbrev pub EntersNone : Command → Type 0
-EntersNone (command.Abandon n) = Unit {0}
-EntersNone (command.Undo names) = Unit {0}
-EntersNone (command.Redo names) = Unit {0}
-EntersNone (command.Exchange position) = Unit {0}
+-- instructions that enter none
+abbrev pub EntersNone : Instruction → Type 0
+EntersNone (instruction.Abandon n) = Unit {0}
+EntersNone (instruction.Undo names) = Unit {0}
+EntersNone (instruction.Redo names) = Unit {0}
+EntersNone (instruction.Exchange position) = Unit {0}
 EntersNone _ = ⊥
 
--- what an accepted command does to its seat: its event is added to the list; or there is none, and an abandoned ticket is no longer open
-abbrev pub Authored : Command → Held → Option EventName → Held → Type 0
+-- what an accepted instruction does to its seat: its event is added to the list; or there is none, and an abandoned ticket is no longer open
+abbrev pub Authored : Instruction → Held → Option EventName → Held → Type 0
 Authored c old (Some e) now = (act : Act) × IsActOf c act × Adds (record { name = e; act = act }) old now
 Authored c old None now = EntersNone c × (now ≡ held old (mark_of c))
 

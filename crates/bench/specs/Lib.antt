@@ -1,6 +1,6 @@
 pub mod Seats
-pub mod Desk
-pub mod DeskView
+pub mod SharedBook
+pub mod SharedBookView
 pub mod Author
 pub mod Limits
 pub mod Workshop

@@ -1,6 +1,6 @@
 //! Work at a Bench where others may be too.
 use crate::Bench;
-use crate::command::Command;
+use crate::instruction::Instruction;
 use crate::pick::Pick;
 use crate::seat::{Opening, Seat};
 use crate::workplace::Workplace;
@@ -45,6 +45,6 @@ impl<L: Opening> Workplace<L> for Errand<'_, L> {
     }
 
     fn abandon<R: Wait>(&self, rt: &R, number: EventName, seat: &mut Seat<L>) {
-        let _ = self.bench.author(rt, Command::Abandon(number), seat);
+        let _ = self.bench.author(rt, Instruction::Abandon(number), seat);
     }
 }

@@ -10,12 +10,12 @@ ghost use Rattle.book.specs.BookView.{book_of};
 ghost use Rattle.book.specs.declared.fault.BookFault.TheVariants.{NoTicket};
 ghost use Rattle.bench_pact.specs.Agree.{blank};
 ghost use Rattle.book.specs.Entered.{entered_in, IsAmong};
-ghost use Rattle.bench.specs.Desk.{held, refused, Answers, Returns};
+ghost use Rattle.bench.specs.SharedBook.{held, refused, Answers, Returns};
 ghost use Rattle.bench.specs.Author.{Authored, mark_of, turn_of, Picked};
 ghost use Rattle.book.specs.declared.book.TheConstants.{MOST_STEPS};
 
-pub mod command;
 mod errand;
+pub mod instruction;
 mod last;
 pub mod once;
 pub mod pick;
@@ -29,11 +29,11 @@ pub mod work;
 mod workplace;
 mod workshop;
 
-use crate::command::Command;
+use crate::instruction::Instruction;
 use crate::pick::Pick;
 use crate::seat::{Opening, Seat};
 use crate::start::Begun;
-use crate::under_lock::Desk;
+use crate::under_lock::SharedBook;
 use bench_pact::PactCell;
 use book::book::Book;
 use book::fault::BookFault;
@@ -47,7 +47,7 @@ use turn::ticket::{Ran, Ticket};
 #[derive(Drop)]
 pub struct Bench<L: Opening> {
     cell: PactCell,
-    desk: Mutex<Desk<L>>,
+    shared: Mutex<SharedBook<L>>,
     ghost named: { cell.table.shared.table_id ≡ L.table },
 }
 
@@ -58,10 +58,10 @@ impl<L: Opening> Bench<L> {
         requires ledger { (blank.name ≡ L.name) × (blank.parts ≡ L.parts) × (L.parts ≡ L.seats) × (parts ≡ L.seats) }
         requires book { (begun.table ≡ L.table) × (entered_in (book_of begun.book).journal ≡ L.began) × (begun.before ≡ L.before) }
     {
-        let (cell, desk) = begun.into_desk::<L>(budget, blank, parts);
+        let (cell, shared) = begun.into_shared::<L>(budget, blank, parts);
         Bench {
             cell,
-            desk: Mutex::new(desk),
+            shared: Mutex::new(shared),
         }
     }
 
@@ -70,7 +70,7 @@ impl<L: Opening> Bench<L> {
     pub fn seat<R: Wait>(&self, rt: &R) -> Option<Seat<L>>
         ensures { IfSome result (λ s. (L.before < s.number) × (s.deeds ≡ blank)) }
     {
-        self.desk.lock(rt).seat(rt, &self.cell)
+        self.shared.lock(rt).seat(rt, &self.cell)
     }
 
     /// Picks the first that may be done: it is done at once, but a turn is to be run and given. Its ticket is open with the seat.
@@ -81,7 +81,7 @@ impl<L: Opening> Bench<L> {
         ensures ok { IfOk result (λ p. Picked p seat.old seat.new) }
         ensures err { IfErr result (λ fault. seat.new ≡ seat.old) }
     {
-        self.desk.lock(rt).checkout(rt, &self.cell, seat)
+        self.shared.lock(rt).checkout(rt, &self.cell, seat)
     }
 
     /// As `checkout`, where turns are left to check out. The count of these is read and lowered under the same lock.
@@ -94,11 +94,11 @@ impl<L: Opening> Bench<L> {
         ensures ok { IfOk result (λ p. Picked p seat.old seat.new) }
         ensures err { IfErr result (λ fault. seat.new ≡ seat.old) }
     {
-        let mut desk = self.desk.lock(rt);
+        let mut shared = self.shared.lock(rt);
         if left.load(Ordering::SeqCst) == 0 {
             return Ok(Pick::Nothing);
         }
-        let answer = desk.checkout(rt, &self.cell, seat);
+        let answer = shared.checkout(rt, &self.cell, seat);
         if matches!(&answer, Ok(Pick::Turn(_))) {
             left.fetch_sub(1, Ordering::SeqCst);
         }
@@ -120,7 +120,7 @@ impl<L: Opening> Bench<L> {
         ensures strange { ticket.carried.seat ≢ seat.old.number → result ≡ Err (ticket, NoTicket) }
     {
         // The lock is free again behind this, before anything of the ticket is dropped.
-        let given = self.desk.lock(rt).give(rt, &self.cell, &ticket, seat);
+        let given = self.shared.lock(rt).give(rt, &self.cell, &ticket, seat);
         match given {
             Ok(event) => {
                 ticket.discard();
@@ -130,20 +130,22 @@ impl<L: Opening> Bench<L> {
         }
     }
 
-    /// Does a command. Answers the name of a new event, where it enters one.
+    /// Does what is asked for. Answers the name of a new event, where it enters one.
     ///
     /// # Errors
     /// Those of the call of the book. A number that is abandoned is no longer open with the seat then either.
     pub fn author<R: Wait>(
         &self,
         rt: &R,
-        command: Command,
+        instruction: Instruction,
         seat: &mut Seat<L>,
     ) -> Result<Option<EventName>, BookFault>
-        ensures ok { IfOk result (λ o. Authored command seat.old o seat.new) }
-        ensures err { IfErr result (λ fault. seat.new ≡ held seat.old (mark_of command)) }
+        ensures ok { IfOk result (λ o. Authored instruction seat.old o seat.new) }
+        ensures err { IfErr result (λ fault. seat.new ≡ held seat.old (mark_of instruction)) }
     {
-        self.desk.lock(rt).author(rt, &self.cell, command, seat)
+        self.shared
+            .lock(rt)
+            .author(rt, &self.cell, instruction, seat)
     }
 
     /// Ends the work. Of each seat that is handed in, the entries with its number are just its list, each once, and its tickets out are open;
@@ -154,7 +156,7 @@ impl<L: Opening> Bench<L> {
         ensures still { IsAmong L.began (entered_in (book_of result.0).journal) }
         ensures all { result.1 ≡ true → sum_by (λ s. length s.deeds.events) seats.items + length L.began ≡ length (book_of result.0).journal }
     {
-        let Bench { cell, desk } = self;
-        desk.into_inner().close(rt, &cell, seats)
+        let Bench { cell, shared } = self;
+        shared.into_inner().close(rt, &cell, seats)
     }
 }

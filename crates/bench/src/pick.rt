@@ -5,6 +5,7 @@ ghost use Rattle.bench.specs.Author.{Picks, RefusesPick};
 
 use book::book::Book;
 use book::fault::BookFault;
+use book::request::Request;
 use book_agenda::agenda::Step;
 use ids::names::EventName;
 use turn::ticket::{Out, Ticket};
@@ -38,7 +39,7 @@ pub(crate) fn pick_first(book: &mut Book, budget: u32, seat: u64) -> Result<Pick
             Ok(Pick::Moved(event))
         }
         Step::Learn(vat, promise) => {
-            let event = book.learn_at_as(vat, promise, seat)?;
+            let event = book.enter(Request::Learn(vat, promise), seat)?;
             Ok(Pick::Moved(event))
         }
         Step::Turn(message) => {

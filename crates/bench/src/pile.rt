@@ -1,7 +1,7 @@
 //! The seats that came back, with the number of turns in their lists.
 ghost use Rattle.std.specs.Prelude.{◌≡◌, ◌≤◌, [], All, IfOk, sum_by};
 ghost use Rattle.bench.specs.Seats.{turns_in, AreWork};
-ghost use Rattle.bench.specs.Desk.{events_of};
+ghost use Rattle.bench.specs.SharedBook.{events_of};
 
 use crate::seat::{Opening, Seat};
 use crate::work::{Free, Worked};
@@ -19,7 +19,7 @@ impl<L: Opening> Model for Pile<L> {
     ghost use Rattle.std.specs.Prelude.{◌≡◌, List, [], All, sum_by};
     ghost use Rattle.bench.specs.Seats.{turns_in, AreWork};
     ghost use Rattle.std.specs.Coded.{coded_list};
-    ghost use Rattle.bench.specs.Desk.{Held, held_code, events_of};
+    ghost use Rattle.bench.specs.SharedBook.{Held, held_code, events_of};
 
     ghost Value = { List Held };
 

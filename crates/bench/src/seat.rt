@@ -2,7 +2,7 @@
 ghost use Rattle.std.specs.Prelude.{◌≡◌, [], ◌+◌, ◌^◌, ◌<◌, ◌≤◌, Some, length, slice_get, slice_set};
 ghost use Rattle.crossbeam_utils.specs.Seq.{cell_view};
 ghost use Rattle.bench_pact.specs.Agree.{blank, holder, knower, after, entered_by, IsKeeper};
-ghost use Rattle.bench.specs.Desk.{IsFit, events_of, held};
+ghost use Rattle.bench.specs.SharedBook.{IsFit, events_of, held};
 ghost use Rattle.bench.specs.Seats.{turns_in};
 
 use bench_pact::{Act, PactCell, PactToken, note};
@@ -57,7 +57,7 @@ pub struct Seat<L: Opening> {
 impl<L: Opening> Model for Seat<L> {
     ghost use Rattle.std.specs.Prelude.{◌≡◌, ◌+◌, ◌<◌, []};
     ghost use Rattle.crossbeam_utils.specs.Seq.{cell_view};
-    ghost use Rattle.bench.specs.Desk.{Held, held_code, IsSeat};
+    ghost use Rattle.bench.specs.SharedBook.{Held, held_code, IsSeat};
 
     ghost Value = { Held };
 
@@ -123,7 +123,7 @@ impl<L: Opening> Seat<L> {
         share
     }
 
-    /// Notes an act, at its desk. Seat and desk agreed on what the seat did before, so its list is no longer than a journal may be.
+    /// Notes an act, at the shared book. Seat and book agreed on what the seat did before, so its list is no longer than a journal may be.
     pub(crate) fn note<R: Wait>(
         &mut self,
         rt: &R,

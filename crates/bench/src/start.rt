@@ -5,7 +5,7 @@ ghost use Rattle.book.specs.Entered.{entered_in};
 ghost use Rattle.book_crew.specs.Work.{IsGreatestSeat};
 
 use crate::seat::Opening;
-use crate::under_lock::Desk;
+use crate::under_lock::SharedBook;
 use bench_pact::{PactCell, PactToken, begin};
 use book::book::Book;
 use std::alloc::{AllocError, Global};
@@ -27,7 +27,7 @@ impl Model for Begun {
     ghost use Rattle.book.specs.BookView.{book_of};
     ghost use Rattle.bench_pact.specs.Agree.{knower};
     ghost use Rattle.book_crew.specs.Work.{IsGreatestSeat};
-    ghost use Rattle.bench.specs.DeskView.{Start, start_code};
+    ghost use Rattle.bench.specs.SharedBookView.{Start, start_code};
 
     ghost Value = { Start };
 
@@ -56,17 +56,17 @@ impl Begun {
         }
     }
 
-    /// The cell, and the desk that is to lie under the lock.
-    pub(crate) fn into_desk<L: Opening>(
+    /// The cell, and the book that is to lie under the lock.
+    pub(crate) fn into_shared<L: Opening>(
         self,
         budget: u32,
         blank: Blank,
         parts: u64,
-    ) -> (PactCell, Desk<L>)
+    ) -> (PactCell, SharedBook<L>)
         requires ledger { (blank.name ≡ L.name) × (blank.parts ≡ L.parts) × (L.parts ≡ L.seats) × (parts ≡ L.seats) }
         requires book { (self.table ≡ L.table) × (entered_in (book_of self.book).journal ≡ L.began) × (self.before ≡ L.before) }
         ensures cell { result.0.table.shared.table_id ≡ L.table }
-        ensures desk { result.1.book ≡ self.book }
+        ensures book { result.1.book ≡ self.book }
         ensures greatest { IsGreatestSeat L.before (book_of self.book) }
     {
         let Begun {
@@ -75,6 +75,9 @@ impl Begun {
             book,
             before,
         } = self;
-        (cell, Desk::new(book, budget, keeper, before, blank, parts))
+        (
+            cell,
+            SharedBook::new(book, budget, keeper, before, blank, parts),
+        )
     }
 }

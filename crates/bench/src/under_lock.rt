@@ -9,11 +9,11 @@ ghost use Rattle.book.specs.declared.fault.BookFault.TheVariants.{NoTicket};
 ghost use Rattle.bench_pact.specs.declared.Act.TheVariants.{Closes};
 ghost use Rattle.bench_pact.specs.Agree.{blank, knower};
 ghost use Rattle.book.specs.Entered.{entered_in, IsAmong};
-ghost use Rattle.bench.specs.Desk.{held, refused, left_by, has_seat, Answers, Returns};
+ghost use Rattle.bench.specs.SharedBook.{held, refused, left_by, has_seat, Answers, Returns};
 ghost use Rattle.book_crew.specs.Work.{IsGreatestSeat};
 ghost use Rattle.bench.specs.Author.{Obeys, Authored, Refuses, mark_of, turn_of, Picks, Picked, RefusesPick};
 
-use crate::command::{Command, obey};
+use crate::instruction::{Instruction, obey};
 use crate::last::last_event;
 use crate::pick::{Pick, pick_first};
 use crate::seat::{Opening, Seat};
@@ -31,7 +31,7 @@ const LAST_SEAT: u64 = 4_294_967_295;
 
 /// The book, with the token that knows what each seat did, and the ledger of what was entered.
 #[derive(Drop)]
-pub struct Desk<L: Opening> {
+pub struct SharedBook<L: Opening> {
     book: Book,
     /// The most steps of a turn.
     budget: u32,
@@ -46,23 +46,23 @@ pub struct Desk<L: Opening> {
     of: PhantomData<L>,
 }
 
-impl<L: Opening> Model for Desk<L> {
+impl<L: Opening> Model for SharedBook<L> {
     ghost use Rattle.std.specs.Prelude.{◌≡◌, ◌+◌, length};
     ghost use Rattle.crossbeam_utils.specs.Seq.{cell_view};
     ghost use Rattle.book.specs.BookView.{book_of};
-    ghost use Rattle.bench.specs.Desk.{IsDesk};
-    ghost use Rattle.bench.specs.DeskView.{Desked, desked_code};
+    ghost use Rattle.bench.specs.SharedBook.{IsSharedBook};
+    ghost use Rattle.bench.specs.SharedBookView.{SharedView, shared_code};
 
-    ghost Value = { Desked };
+    ghost Value = { SharedView };
 
-    ghost coded = { desked_code };
+    ghost coded = { shared_code };
 
     ghost view = { λ d. record { book = d.book; budget = d.budget; made = d.made } };
 
-    ghost invariant = { λ d. (d.keeper.table_id ≡ L.table) × (d.before ≡ L.before) × IsDesk (L.before + 1) d.made L.began (cell_view d.keeper) (book_of d.book) × (d.entries.total + length L.began ≡ length (book_of d.book).journal) × (d.rest.parts + d.made ≡ L.seats) × (d.rest.amount ≡ 0) × (d.left ≡ d.rest.parts) };
+    ghost invariant = { λ d. (d.keeper.table_id ≡ L.table) × (d.before ≡ L.before) × IsSharedBook (L.before + 1) d.made L.began (cell_view d.keeper) (book_of d.book) × (d.entries.total + length L.began ≡ length (book_of d.book).journal) × (d.rest.parts + d.made ≡ L.seats) × (d.rest.amount ≡ 0) × (d.left ≡ d.rest.parts) };
 }
 
-impl<L: Opening> Desk<L> {
+impl<L: Opening> SharedBook<L> {
     /// No seat is made yet. The ledger has a part for each that there may be.
     pub fn new(
         book: Book,
@@ -71,7 +71,7 @@ impl<L: Opening> Desk<L> {
         before: u64,
         blank: Blank,
         parts: u64,
-    ) -> Desk<L>
+    ) -> SharedBook<L>
         requires ledger { (blank.name ≡ L.name) × (blank.parts ≡ L.parts) × (L.parts ≡ L.seats) × (parts ≡ L.seats) }
         requires keeper { (keeper.table_id ≡ L.table) × (cell_view keeper ≡ knower []) }
         requires began { (entered_in (book_of book).journal ≡ L.began) × (before ≡ L.before) }
@@ -79,7 +79,7 @@ impl<L: Opening> Desk<L> {
         ensures { (result.book ≡ book) × (result.budget ≡ budget) × (result.made ≡ 0) }
     {
         let (entries, rest) = blank.open::<L>();
-        Desk {
+        SharedBook {
             book,
             budget,
             keeper,
@@ -111,7 +111,7 @@ impl<L: Opening> Desk<L> {
         Some(Seat::new(number, token, share))
     }
 
-    /// Does a command, for a seat. Answers the name of a new event, where it enters one.
+    /// Does what is asked for, for a seat. Answers the name of a new event, where it enters one.
     ///
     /// # Errors
     /// Those of the call of the book. A number that is abandoned is no longer open with the seat then either.
@@ -119,16 +119,16 @@ impl<L: Opening> Desk<L> {
         &mut self,
         rt: &R,
         cell: &PactCell,
-        command: Command,
+        instruction: Instruction,
         seat: &mut Seat<L>,
     ) -> Result<Option<EventName>, BookFault>
         requires { cell.now.table.shared.table_id ≡ L.table }
-        ensures ok { IfOk result (λ o. Obeys command seat.old.number o (book_of self.old.book) (book_of self.new.book) × Authored command seat.old o seat.new) }
-        ensures err { IfErr result (λ fault. Refuses command (book_of self.old.book) fault × (seat.new ≡ held seat.old (mark_of command)) × (book_of self.new.book ≡ book_of self.old.book)) }
+        ensures ok { IfOk result (λ o. Obeys instruction seat.old.number o (book_of self.old.book) (book_of self.new.book) × Authored instruction seat.old o seat.new) }
+        ensures err { IfErr result (λ fault. Refuses instruction (book_of self.old.book) fault × (seat.new ≡ held seat.old (mark_of instruction)) × (book_of self.new.book ≡ book_of self.old.book)) }
         ensures kept { (self.new.budget ≡ self.old.budget) × (self.new.made ≡ self.old.made) }
     {
-        let mark = command.mark();
-        match obey(&mut self.book, command, seat.number()) {
+        let mark = instruction.mark();
+        match obey(&mut self.book, instruction, seat.number()) {
             Ok(Some(event)) => {
                 let entered = last_event(&self.book);
                 seat.note(
@@ -296,7 +296,7 @@ impl<L: Opening> Desk<L> {
     pub fn into_book(self) -> Book
         ensures { result ≡ self.book }
     {
-        let Desk {
+        let SharedBook {
             book,
             budget: _,
             keeper: _,
@@ -320,14 +320,14 @@ impl<L: Opening> Desk<L> {
         ensures whole { IsTrue result.1 ↔ (vec_len seats ≡ self.made) }
         ensures all { result.1 ≡ true → sum_by (λ s. length s.deeds.events) seats.items + length L.began ≡ length (book_of self.book).journal }
     {
-        let mut desk = self;
+        let mut shared = self;
         let count = seats.len() as u64;
-        let mut all = desk.rest.empty();
+        let mut all = shared.rest.empty();
         for seat in seats {
-            desk.take_back(rt, cell, seat, &mut all);
+            shared.take_back(rt, cell, seat, &mut all);
         }
-        let whole = count == desk.made;
-        let Desk {
+        let whole = count == shared.made;
+        let SharedBook {
             book,
             budget: _,
             keeper: _,
@@ -337,7 +337,7 @@ impl<L: Opening> Desk<L> {
             made: _,
             before: _,
             of: _,
-        } = desk;
+        } = shared;
         all.merge(rest);
         entries.audit(&mut all);
         (book, whole)

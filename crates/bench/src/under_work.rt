@@ -1,17 +1,17 @@
-//! What lies under the lock of a workshop: the desk of its book, and what became of the book since work began.
+//! What lies under the lock of a workshop: the shared book, and what became of it since work began.
 ghost use Rattle.std.specs.Prelude.{◌≡◌, ℕ, ◌<◌, ◌≤◌, IfOk, IfErr, IfSome, true};
 ghost use Rattle.book.specs.BookView.{book_of};
 ghost use Rattle.bench_pact.specs.declared.Act.TheVariants.{Closes};
 ghost use Rattle.bench_pact.specs.Agree.{blank};
 ghost use Rattle.bench.specs.Author.{Picked, turn_of};
-ghost use Rattle.bench.specs.Desk.{events_of, held, refused, Returns};
+ghost use Rattle.bench.specs.SharedBook.{events_of, held, refused, Returns};
 ghost use Rattle.bench.specs.Seats.{AreWork};
 ghost use Rattle.book_crew.specs.Work.{IsGreatestSeat, Worked};
 
-use crate::command::Command;
+use crate::instruction::Instruction;
 use crate::pick::Pick;
 use crate::seat::Seat;
-use crate::under_lock::Desk;
+use crate::under_lock::SharedBook;
 use crate::workshop::Shift;
 use bench_pact::PactCell;
 use book::book::Book;
@@ -22,10 +22,10 @@ use std::marker::Model;
 use std::sync::Wait;
 use turn::ticket::{Ran, Ticket};
 
-/// The desk, with counts of turns, and the numbers of the tickets that it lent.
+/// The shared book, with counts of turns, and the numbers of the tickets that it lent.
 #[derive(Drop)]
-pub(crate) struct WorkDesk<L: Shift> {
-    desk: Desk<L>,
+pub(crate) struct WorkBook<L: Shift> {
+    shared: SharedBook<L>,
     /// The turns that may still be checked out.
     left: u64,
     /// The turns that were entered.
@@ -37,18 +37,18 @@ pub(crate) struct WorkDesk<L: Shift> {
     untouched: bool,
 }
 
-impl<L: Shift> Model for WorkDesk<L> {
+impl<L: Shift> Model for WorkBook<L> {
     ghost use Rattle.book.specs.BookView.{book_of};
-    ghost use Rattle.bench.specs.DeskView.{Desked, desked_code};
+    ghost use Rattle.bench.specs.SharedBookView.{SharedView, shared_code};
     ghost use Rattle.bench.specs.Workshop.{IsWorkshop};
 
-    ghost Value = { Desked };
+    ghost Value = { SharedView };
 
-    ghost coded = { desked_code };
+    ghost coded = { shared_code };
 
-    ghost view = { λ d. d.desk };
+    ghost view = { λ d. d.shared };
 
-    ghost invariant = { λ d. IsWorkshop L.before L.seats L.most L.book d.left d.given d.first d.behind d.untouched (book_of d.desk.book) };
+    ghost invariant = { λ d. IsWorkshop L.before L.seats L.most L.book d.left d.given d.first d.behind d.untouched (book_of d.shared.book) };
 }
 
 /// The first number that was lent, when this one is lent too.
@@ -60,14 +60,14 @@ fn first_lent(first: u64, behind: u64, number: u64) -> u64
     if first == behind { number } else { first }
 }
 
-impl<L: Shift> WorkDesk<L> {
+impl<L: Shift> WorkBook<L> {
     /// Nothing was done yet.
-    pub fn new(desk: Desk<L>, turns: u64) -> WorkDesk<L>
-        requires book { (book_of desk.book ≡ L.book) × IsGreatestSeat L.before L.book }
+    pub fn new(shared: SharedBook<L>, turns: u64) -> WorkBook<L>
+        requires book { (book_of shared.book ≡ L.book) × IsGreatestSeat L.before L.book }
         requires turns { turns ≡ L.most }
     {
-        WorkDesk {
-            desk,
+        WorkBook {
+            shared,
             left: turns,
             given: 0,
             first: 0,
@@ -76,12 +76,12 @@ impl<L: Shift> WorkDesk<L> {
         }
     }
 
-    /// A new seat, as `Desk::seat`.
+    /// A new seat, as `SharedBook::seat`.
     pub fn seat<R: Wait>(&mut self, rt: &R, cell: &PactCell) -> Option<Seat<L>>
         requires { cell.now.table.shared.table_id ≡ L.table }
         ensures { IfSome result (λ s. s.deeds ≡ blank) }
     {
-        self.desk.seat(rt, cell)
+        self.shared.seat(rt, cell)
     }
 
     /// Picks the first that may be done, where turns are left to check out.
@@ -99,7 +99,7 @@ impl<L: Shift> WorkDesk<L> {
         if self.left == 0 {
             return Ok(Pick::Nothing);
         }
-        let pick = self.desk.checkout(rt, cell, seat)?;
+        let pick = self.shared.checkout(rt, cell, seat)?;
         match &pick {
             Pick::Nothing => {}
             Pick::Moved(_) => self.untouched = false,
@@ -114,7 +114,7 @@ impl<L: Shift> WorkDesk<L> {
         Ok(pick)
     }
 
-    /// Enters the turn of a ticket that was run, as `Desk::give`.
+    /// Enters the turn of a ticket that was run, as `SharedBook::give`.
     pub fn give<R: Wait>(
         &mut self,
         rt: &R,
@@ -128,7 +128,7 @@ impl<L: Shift> WorkDesk<L> {
         ensures work { AreWork (events_of seat.old.deeds) → AreWork (events_of seat.new.deeds) }
     {
         self.untouched = false;
-        let event = self.desk.give(rt, cell, ticket, seat)?;
+        let event = self.shared.give(rt, cell, ticket, seat)?;
         self.given += 1;
         Ok(event)
     }
@@ -145,7 +145,9 @@ impl<L: Shift> WorkDesk<L> {
         ensures { seat.new ≡ held seat.old (Closes number) }
     {
         self.untouched = false;
-        let _ = self.desk.author(rt, cell, Command::Abandon(number), seat);
+        let _ = self
+            .shared
+            .author(rt, cell, Instruction::Abandon(number), seat);
     }
 
     /// Ends the work: tickets that nobody gave are let go.
@@ -153,15 +155,15 @@ impl<L: Shift> WorkDesk<L> {
         ensures worked { Worked L.seats L.most result.1 L.book (book_of result.0) }
         ensures untouched { result.2 ≡ true → book_of result.0 ≡ L.book }
     {
-        let WorkDesk {
-            desk,
+        let WorkBook {
+            shared,
             left: _,
             given,
             first,
             behind,
             untouched,
         } = self;
-        let mut book = desk.into_book();
+        let mut book = shared.into_book();
         for number in first..behind {
             let _ = book.abandon(EventName(number as u32));
         }

@@ -3,7 +3,7 @@
 //! What is known of a seat goes through a channel in the type of the message, since nothing else is known of what comes through one.
 ghost use Rattle.std.specs.Prelude.{◌≡◌, ◌≤◌, ◌∷◌, [], All, IfOk, IfErr, sum_by};
 ghost use Rattle.bench.specs.Seats.{turns_in, AreWork};
-ghost use Rattle.bench.specs.Desk.{events_of};
+ghost use Rattle.bench.specs.SharedBook.{events_of};
 ghost use Rattle.book_crew.specs.Work.{StopsWork};
 
 use crate::Bench;

@@ -3,7 +3,7 @@ ghost use Rattle.std.specs.Prelude.{◌≡◌, IfOk, IfErr, IfSome};
 ghost use Rattle.bench_pact.specs.Agree.{blank};
 ghost use Rattle.bench_pact.specs.declared.Act.TheVariants.{Closes};
 ghost use Rattle.bench.specs.Author.{Picked, turn_of};
-ghost use Rattle.bench.specs.Desk.{events_of, held, refused, Returns};
+ghost use Rattle.bench.specs.SharedBook.{events_of, held, refused, Returns};
 ghost use Rattle.bench.specs.Seats.{AreWork};
 
 use crate::pick::Pick;

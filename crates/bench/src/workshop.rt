@@ -8,7 +8,7 @@ ghost use Rattle.book.specs.declared.book.TheConstants.{MOST_STEPS};
 use crate::pick::Pick;
 use crate::seat::{Opening, Seat};
 use crate::start::Begun;
-use crate::under_work::WorkDesk;
+use crate::under_work::WorkBook;
 use crate::workplace::Workplace;
 use bench_pact::PactCell;
 use book::book::Book;
@@ -43,7 +43,7 @@ impl Shift for Brand {
 #[derive(Drop)]
 pub(crate) struct Workshop<L: Shift> {
     cell: PactCell,
-    desk: Mutex<WorkDesk<L>>,
+    shared: Mutex<WorkBook<L>>,
     ghost named: { cell.table.shared.table_id ≡ L.table },
 }
 
@@ -55,10 +55,10 @@ impl<L: Shift> Workshop<L> {
         requires book { (begun.table ≡ L.table) × (book_of begun.book ≡ L.book) × (entered_in (book_of begun.book).journal ≡ L.began) × (begun.before ≡ L.before) }
         requires turns { turns ≡ L.most }
     {
-        let (cell, desk) = begun.into_desk::<L>(budget, blank, parts);
+        let (cell, shared) = begun.into_shared::<L>(budget, blank, parts);
         Workshop {
             cell,
-            desk: Mutex::new(WorkDesk::new(desk, turns)),
+            shared: Mutex::new(WorkBook::new(shared, turns)),
         }
     }
 
@@ -67,18 +67,18 @@ impl<L: Shift> Workshop<L> {
         ensures worked { Worked L.seats L.most result.1 L.book (book_of result.0) }
         ensures untouched { result.2 ≡ true → book_of result.0 ≡ L.book }
     {
-        let Workshop { cell: _, desk } = self;
-        desk.into_inner().close()
+        let Workshop { cell: _, shared } = self;
+        shared.into_inner().close()
     }
 }
 
 impl<L: Shift> Workplace<L> for Workshop<L> {
     fn seat<R: Wait>(&self, rt: &R) -> Option<Seat<L>> {
-        self.desk.lock(rt).seat(rt, &self.cell)
+        self.shared.lock(rt).seat(rt, &self.cell)
     }
 
     fn checkout<R: Wait>(&self, rt: &R, seat: &mut Seat<L>) -> Result<Pick, BookFault> {
-        self.desk.lock(rt).checkout(rt, &self.cell, seat)
+        self.shared.lock(rt).checkout(rt, &self.cell, seat)
     }
 
     fn give<R: Wait>(
@@ -87,7 +87,7 @@ impl<L: Shift> Workplace<L> for Workshop<L> {
         ticket: Ticket<Ran>,
         seat: &mut Seat<L>,
     ) -> Result<EventName, (Ticket<Ran>, BookFault)> {
-        let given = self.desk.lock(rt).give(rt, &self.cell, &ticket, seat);
+        let given = self.shared.lock(rt).give(rt, &self.cell, &ticket, seat);
         match given {
             Ok(event) => {
                 ticket.discard();
@@ -98,6 +98,6 @@ impl<L: Shift> Workplace<L> for Workshop<L> {
     }
 
     fn abandon<R: Wait>(&self, rt: &R, number: EventName, seat: &mut Seat<L>) {
-        self.desk.lock(rt).abandon(rt, &self.cell, number, seat)
+        self.shared.lock(rt).abandon(rt, &self.cell, number, seat)
     }
 }

@@ -3,14 +3,15 @@ ghost use Rattle.std.specs.Prelude.{◌≡◌};
 ghost use Rattle.book.specs.BookView.{book_of};
 ghost use Rattle.book.specs.Entered.{entered_in};
 
-use crate::books::{BUDGET, asked, begun, message, name, passed_on, program};
+use crate::books::{BUDGET, asked, begun, message, name, passed_on, program, vat};
 use bench::Bench;
-use bench::command::Command;
+use bench::instruction::Instruction;
 use bench::pick::Pick;
 use bench::seat::{Opening, Seat};
 use bench::start::Begun;
 use book::fault::BookFault;
-use ids::names::{EventName, PromId, VatNo};
+use book::request::Request;
+use ids::names::{EventName, PromId};
 use std::marker::Brand;
 use std::process::Abort;
 use std::sync::Wait;
@@ -117,22 +118,22 @@ fn refuse_stale<L: Opening>(
     ticket
 }
 
-/// Does a command that enters an event of this number, or none.
+/// Does an instruction that enters an event of this number, or none.
 pub(crate) fn author<L: Opening>(
     rt: &(impl Wait + Abort),
     bench: &Bench<L>,
-    command: Command,
+    instruction: Instruction,
     seat: &mut Seat<L>,
     event: Option<u32>,
 ) {
-    match bench.author(rt, command, seat) {
+    match bench.author(rt, instruction, seat) {
         Ok(entered) => assert!(rt; entered == event.map(EventName)),
         Err(fault) => panic!(rt; "author: {fault}"),
     }
 }
 
-fn ask_alice(rt: &(impl Abort + AllocGlobal)) -> Command {
-    Command::Ask(name(rt, "alice"), program(rt, "1"))
+fn ask_alice(rt: &(impl Abort + AllocGlobal)) -> Instruction {
+    Instruction::Enter(Request::Ask(name(rt, "alice"), program(rt, "1")))
 }
 
 /// These events alone.
@@ -173,10 +174,16 @@ fn strange_tickets<L: Opening, R: Wait + Abort + AllocGlobal>(
     assert!(rt; one.tally() == 1 && one.turns() == 1 && two.tally() == 0);
     // Abandoned, by another seat.
     let ran = run(rt, checkout(rt, &bench, &mut two, 8));
-    author(rt, &bench, Command::Abandon(EventName(8)), &mut one, None);
+    author(
+        rt,
+        &bench,
+        Instruction::Abandon(EventName(8)),
+        &mut one,
+        None,
+    );
     assert!(rt;
         matches!(
-            bench.author(rt, Command::Abandon(EventName(8)), &mut one),
+            bench.author(rt, Instruction::Abandon(EventName(8)), &mut one),
             Err(BookFault::NoTicket)
         )
     );
@@ -219,12 +226,12 @@ fn moving_world<L: Opening, R: Wait + Abort + AllocGlobal>(
     let opening = PromId {
         event: EventName(1),
         index: 0,
-        home: VatNo(EventName(1)),
+        home: vat(1),
     };
     author(
         rt,
         &bench,
-        Command::Learn(name(rt, "alice"), opening),
+        Instruction::Enter(Request::Learn(vat(5), opening)),
         &mut author_seat,
         Some(17),
     );
@@ -235,7 +242,7 @@ fn moving_world<L: Opening, R: Wait + Abort + AllocGlobal>(
     author(
         rt,
         &bench,
-        Command::Undo(events(rt, 14)),
+        Instruction::Undo(events(rt, 14)),
         &mut author_seat,
         None,
     );
@@ -243,7 +250,7 @@ fn moving_world<L: Opening, R: Wait + Abort + AllocGlobal>(
     author(
         rt,
         &bench,
-        Command::Redo(events(rt, 14)),
+        Instruction::Redo(events(rt, 14)),
         &mut author_seat,
         None,
     );
@@ -253,7 +260,7 @@ fn moving_world<L: Opening, R: Wait + Abort + AllocGlobal>(
     author(
         rt,
         &bench,
-        Command::Undo(events(rt, 20)),
+        Instruction::Undo(events(rt, 20)),
         &mut author_seat,
         None,
     );
@@ -261,7 +268,7 @@ fn moving_world<L: Opening, R: Wait + Abort + AllocGlobal>(
     author(
         rt,
         &bench,
-        Command::Redo(events(rt, 20)),
+        Instruction::Redo(events(rt, 20)),
         &mut author_seat,
         None,
     );

@@ -6,11 +6,12 @@ ghost use Rattle.book.specs.Entered.{entered_in};
 use crate::books::{BUDGET, begun, name, program, vat};
 use crate::by_calls::{author, give, run, seat};
 use bench::Bench;
-use bench::command::Command;
+use bench::instruction::Instruction;
 use bench::pick::Pick;
 use bench::seat::{Opening, Seat};
 use bench::start::Begun;
 use book::book::Book;
+use book::request::Request;
 use ids::names::{EventName, PromId};
 use ids::text::Text;
 use post::published::Published;
@@ -21,12 +22,17 @@ use std::sync::ledger::Blank;
 use values::value::Value;
 
 /// A birth of a vat whose script sees these earlier ones.
-fn birth(rt: &(impl Abort + AllocGlobal), vat: &str, earlier: &[&str], script: &str) -> Command {
+fn birth(
+    rt: &(impl Abort + AllocGlobal),
+    vat: &str,
+    earlier: &[&str],
+    script: &str,
+) -> Instruction {
     let mut names: Vec<Text> = Vec::new(rt.alloc());
     for other in earlier {
         names.push(name(rt, other)).expect(rt, "no memory");
     }
-    Command::Birth(name(rt, vat), names, program(rt, script))
+    Instruction::Enter(Request::Birth(name(rt, vat), names, program(rt, script)))
 }
 
 /// Does all that may be done.
@@ -62,7 +68,10 @@ fn pipelined<L: Opening, R: Wait + Abort + AllocGlobal>(
     let make = "def _ { method make() { c <- note(); c } }";
     author(rt, &bench, birth(rt, "b", &["c"], make), &mut mine, Some(2));
     author(rt, &bench, birth(rt, "a", &["b"], ""), &mut mine, Some(3));
-    let question = Command::Ask(name(rt, "a"), program(rt, "(b <- make()) <- hit()"));
+    let question = Instruction::Enter(Request::Ask(
+        name(rt, "a"),
+        program(rt, "(b <- make()) <- hit()"),
+    ));
     author(rt, &bench, question, &mut mine, Some(4));
     finish(rt, &bench, &mut mine);
     let mut seats = Vec::new(rt.alloc());

@@ -7,5 +7,6 @@ pub mod Good
 pub mod Learning
 pub mod Limits
 pub mod Refusals
+pub mod Requests
 pub mod Standing
 pub mod Counting

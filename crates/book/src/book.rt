@@ -70,7 +70,7 @@ pub const MOST_ENTRIES: usize = 1_048_576;
 pub const MOST_STEPS: u32 = 1_000_000;
 
 /// The seat of events that are entered from none.
-pub(crate) const NO_SEAT: u64 = 0;
+pub const NO_SEAT: u64 = 0;
 
 /// A turn that was run: its event's name, and how it ended.
 #[derive(Drop)]
@@ -183,7 +183,7 @@ impl Book {
     }
 
     /// Enters an event that is possible and makes no notes under the next name, from a seat, or changes nothing.
-    fn enter(&mut self, event: Event, seat: u64, effects: Effects) -> Result<(), AllocError>
+    fn enter_event(&mut self, event: Event, seat: u64, effects: Effects) -> Result<(), AllocError>
         requires named { event.name.0 ≡ self.old.next }
         requires in_range { self.old.next ≤ LAST_NAME }
         requires room { full_refusal (book_of self.old) ≡ None }
@@ -280,7 +280,7 @@ impl Book {
         let script = Script::new(self.alloc, &script)?;
         let effects = birth_effects(self.alloc, event, name, &earlier, &vats, tops, &script)?;
         let action = Action::Birth(name.share()?, earlier, script);
-        self.enter(
+        self.enter_event(
             Event {
                 name: event,
                 action,
@@ -324,7 +324,7 @@ impl Book {
         let question = Question::new(self.alloc, &program)?;
         let effects = ask_effects(self.alloc, event, name, vat, &question)?;
         let action = Action::Ask(name.share()?, question);
-        self.enter(
+        self.enter_event(
             Event {
                 name: event,
                 action,
@@ -364,7 +364,7 @@ impl Book {
     {
         let (event, arrived) = self.admit_arrival(name)?;
         let effects = move_effects(self.alloc, event, name, arrived, &[])?;
-        self.enter(
+        self.enter_event(
             Event {
                 name: event,
                 action: Action::Arrive(name),
@@ -409,7 +409,7 @@ impl Book {
     {
         let (event, forwarded, through) = self.admit_forward(name)?;
         let effects = move_effects(self.alloc, event, name, forwarded, &through)?;
-        self.enter(
+        self.enter_event(
             Event {
                 name: event,
                 action: Action::Forward(name),
@@ -440,7 +440,7 @@ impl Book {
             Some(vat) => vat.number,
             None => return Err(BookFault::NoVat(name.share()?)),
         };
-        self.learn_at_as(vat, promise, seat)
+        self.learn_at(vat, promise, seat)
     }
 
     /// The same, from no seat, by the event and the number of the promise, which do without its home.
@@ -464,13 +464,13 @@ impl Book {
             None => return Err(BookFault::NoVat(name.share()?)),
         };
         match self.known_as(vat, event, index)? {
-            Some(promise) => self.learn_at_as(vat, promise, NO_SEAT),
+            Some(promise) => self.learn_at(vat, promise, NO_SEAT),
             None => Err(BookFault::NothingToLearn),
         }
     }
 
     /// The same, from a seat, by the vat's number.
-    pub fn learn_at_as(
+    pub(crate) fn learn_at(
         &mut self,
         vat: VatNo,
         promise: PromId,
@@ -486,7 +486,7 @@ impl Book {
         let state = self.core.share_vat(self.alloc, vat)?;
         let footprint = learn(self.alloc, event, vat, state, promise, &published)?;
         let effects = learn_effects(self.alloc, event, vat, promise, &footprint)?;
-        self.enter(
+        self.enter_event(
             Event {
                 name: event,
                 action: Action::Learn(vat, promise),

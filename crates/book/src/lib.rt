@@ -3,6 +3,7 @@
 
 pub mod book;
 pub mod fault;
+pub mod request;
 mod seatless;
 mod seats;
 mod taking_back;

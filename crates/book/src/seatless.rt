@@ -1,15 +1,14 @@
 // Events that are entered from no seat.
 ghost use Rattle.std.specs.Prelude.{◌≡◌, IfOk, IfErr, OnOk, OnErr};
-ghost use Rattle.ids.specs.declared.names.VatNo.{VatNo};
 ghost use Rattle.kernele.specs.View.{program_of};
 ghost use Rattle.world_cells.specs.Events.{birth, ask, arrive, forward, learn};
-ghost use Rattle.book.specs.Refusals.{birth_refusal, ask_refusal, arrival_refusal, forward_refusal, learn_refusal, learning_refusal};
-ghost use Rattle.book.specs.Calls.{Arrives, Asks, Births, Forwards, Learns, LearnsAt};
+ghost use Rattle.book.specs.Refusals.{birth_refusal, ask_refusal, arrival_refusal, forward_refusal, learn_refusal};
+ghost use Rattle.book.specs.Calls.{Arrives, Asks, Births, Forwards, Learns};
 ghost use Rattle.book.specs.Fault.{Tells};
 
 use crate::book::{Book, NO_SEAT};
 use crate::fault::BookFault;
-use ids::names::{EventName, MsgId, PromId, VatNo};
+use ids::names::{EventName, MsgId, PromId};
 use ids::text::Text;
 use kernele::tree::Program;
 
@@ -75,16 +74,5 @@ impl Book {
         ensures none { OnErr result (swaps_of self.new ≡ swaps_of self.old) }
     {
         self.learn_as(name, promise, NO_SEAT)
-    }
-
-    /// As `learn_at_as`, also in its errors, from no seat.
-    pub fn learn_at(&mut self, vat: VatNo, promise: PromId) -> Result<EventName, BookFault>
-        ensures ok { IfOk result (λ e. LearnsAt vat promise 0 e (book_of self.old) (book_of self.new)) }
-        ensures err { IfErr result (λ fault. Tells fault (learning_refusal (book_of self.old) vat promise)) }
-        ensures unchanged { OnErr result (book_of self.new ≡ book_of self.old) }
-        ensures counted { OnOk result (CountsNew self.old self.new) }
-        ensures none { OnErr result (swaps_of self.new ≡ swaps_of self.old) }
-    {
-        self.learn_at_as(vat, promise, NO_SEAT)
     }
 }

@@ -36,10 +36,10 @@ impl Display for Complaint<'_> {
 }
 
 /// What the program comes to, or why it does not.
-pub(crate) type Outcome<'a> = Result<Ended, Complaint<'a>>;
+pub(crate) type RunEnd<'a> = Result<Ended, Complaint<'a>>;
 
 /// A run that was cut short is complained of.
-pub(crate) fn outcome<'a>(ended: Ended) -> Outcome<'a>
+pub(crate) fn outcome<'a>(ended: Ended) -> RunEnd<'a>
     ensures { exit_status_of result ≡ status_of ended }
 {
     match ended {
@@ -49,7 +49,7 @@ pub(crate) fn outcome<'a>(ended: Ended) -> Outcome<'a>
 }
 
 /// The exit status: 2 where something is complained of.
-pub(crate) fn exit_status(outcome: &Outcome<'_>) -> u8
+pub(crate) fn exit_status(outcome: &RunEnd<'_>) -> u8
     ensures { result ≡ exit_status_of outcome.now }
 {
     match outcome {

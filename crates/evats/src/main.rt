@@ -7,7 +7,7 @@ mod options;
 mod threaded;
 mod words;
 
-use complaint::{Complaint, Outcome, exit_status, outcome};
+use complaint::{Complaint, RunEnd, exit_status, outcome};
 use edge::answer_commands;
 use options::{Options, Parsed, parse};
 use std::process::ExitCode;
@@ -23,7 +23,7 @@ use words::{WordsFault, words};
 fn answer<'a, R: Runtime + AllocGlobal + Threads + Wait + Sync>(
     rt: &R,
     options: Options<'a>,
-) -> Outcome<'a> {
+) -> RunEnd<'a> {
     let Options { limits, file } = options;
     let output = io::writer(rt);
     let mut crew = Threaded { rt };
@@ -40,7 +40,7 @@ fn answer<'a, R: Runtime + AllocGlobal + Threads + Wait + Sync>(
 fn obey<'a, R: Runtime + AllocGlobal + Threads + Wait + Sync>(
     rt: &R,
     words: &'a [String],
-) -> Outcome<'a> {
+) -> RunEnd<'a> {
     match parse(rt, words) {
         Ok(Parsed::Options(options)) => answer(rt, options),
         Ok(Parsed::Stop(ended)) => Ok(ended),
@@ -49,7 +49,7 @@ fn obey<'a, R: Runtime + AllocGlobal + Threads + Wait + Sync>(
 }
 
 /// Says on standard error what is complained of, and gives the exit status. Where it cannot be said, the status alone tells it.
-fn end(rt: &impl Eprint, outcome: &Outcome<'_>) -> u8 {
+fn end(rt: &impl Eprint, outcome: &RunEnd<'_>) -> u8 {
     if let Err(complaint) = outcome {
         let _ = eprintln!(rt; "evats: {complaint}");
     }

@@ -23,8 +23,9 @@ use crate::reply::{
     Written, put_done, put_exchanged, put_idle, put_log, put_queued, put_redone, put_settled,
     put_turned, put_undone, put_worked,
 };
-use book::book::{Book, Turned};
+use book::book::{Book, NO_SEAT, Turned};
 use book::fault::BookFault;
+use book::request::Request;
 use book_agenda::agenda::Step;
 use book_crew::crew::{Crew, Order};
 use causewaylog::log::log_of;
@@ -166,7 +167,7 @@ impl Engine {
     fn learn_at<W: Write>(&mut self, vat: VatNo, promise: PromId, out: &mut Outlet<W>) -> bool
         ensures { Moved W.contents self.old self.new out.old out.new (Step.Learn vat promise) result }
     {
-        match self.book.learn_at(vat, promise) {
+        match self.book.enter(Request::Learn(vat, promise), NO_SEAT) {
             Ok(event) => {
                 put_done(event, out);
                 true

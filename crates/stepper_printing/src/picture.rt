@@ -20,7 +20,7 @@ use world_cells::world::World;
 
 /// A vat, with what it holds, in order.
 #[derive(Drop)]
-pub(crate) struct Home {
+pub(crate) struct VatHome {
     pub(crate) number: VatNo,
     pub(crate) name: Text,
     /// None where the vat has no state.
@@ -33,7 +33,7 @@ pub struct Picture {
     /// The names of the vats.
     pub(crate) vats: BTreeMap<VatNo, Text>,
     /// The vats in order of birth.
-    pub(crate) homes: Vec<Home>,
+    pub(crate) homes: Vec<VatHome>,
     pub(crate) messages: BTreeMap<MsgId, Message>,
     pub(crate) board: BTreeMap<PromId, Published>,
 }
@@ -86,7 +86,7 @@ fn homes_of(
     alloc: Global,
     vats: &BTreeMap<VatNo, Text>,
     world: &World,
-) -> Result<Vec<Home>, AllocError>
+) -> Result<Vec<VatHome>, AllocError>
     ensures { IfOk result (λ homes. VatLines (world_of world.now) vats.now.entries (homes_text homes.items)) }
 {
     let mut homes = Vec::new(alloc);
@@ -97,10 +97,10 @@ fn homes_of(
 }
 
 /// A vat with what it holds.
-fn home_of(alloc: Global, number: VatNo, name: &Text, world: &World) -> Result<Home, AllocError>
+fn home_of(alloc: Global, number: VatNo, name: &Text, world: &World) -> Result<VatHome, AllocError>
     ensures { IfOk result (IsHome (world_of world.now) number name.now) }
 {
-    Ok(Home {
+    Ok(VatHome {
         number,
         name: name.share()?,
         held: held_by(alloc, number, world)?,

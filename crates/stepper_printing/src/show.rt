@@ -14,7 +14,7 @@ ghost use Rattle.stepper_printing.specs.PictureView.{contents_text, held_text, h
 ghost use Rattle.stepper_streams.specs.Outlet.{Tells};
 
 use crate::names::{put_event, put_message, put_object, put_promise, put_reference, put_slot};
-use crate::picture::{Home, Picture};
+use crate::picture::{Picture, VatHome};
 use crate::value::put_value;
 use eorder::fence::Fence;
 use heap::made::Made;
@@ -225,7 +225,7 @@ fn put_held<W: Write>(held: &Option<Contents>, out: &mut Outlet<W>)
     }
 }
 
-fn put_home<W: Write>(home: &Home, out: &mut Outlet<W>)
+fn put_home<W: Write>(home: &VatHome, out: &mut Outlet<W>)
     ensures { Tells W.contents out.old out.new (home_text home.now) }
 {
     put_vat_line(home.number, &home.name, out);
@@ -233,7 +233,7 @@ fn put_home<W: Write>(home: &Home, out: &mut Outlet<W>)
 }
 
 /// Puts vats, each with what it holds.
-fn put_homes<W: Write>(homes: &[Home], out: &mut Outlet<W>)
+fn put_homes<W: Write>(homes: &[VatHome], out: &mut Outlet<W>)
     ensures { Tells W.contents out.old out.new (homes_text homes.now) }
 {
     for home in homes {

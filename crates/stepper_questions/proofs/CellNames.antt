@@ -10,13 +10,13 @@ use Rattle.ids.specs.declared.cells.CellKey.{CellKey}
 use Rattle.ids.specs.declared.cells.CellKey.TheVariants as key
 use Rattle.ids.proofs.CellKeys.{same_exact, same_self}
 use Rattle.stepper_questions.specs.Cells.{key_of, cell_cmp}
-use Rattle.stepper_questions.specs.contracts.cell.CellPartialEq.TheImpl as cell_test
-use Rattle.stepper_questions.specs.contracts.cell.CellOrd.TheImpl.Laws.{total-law, matches_eq-law}
-use Rattle.stepper_questions.specs.declared.cell.Cell.{Cell}
-use Rattle.stepper_questions.specs.declared.cell.Cell.TheVariants as cell
+use Rattle.stepper_questions.specs.contracts.cell.ToldCellPartialEq.TheImpl as cell_test
+use Rattle.stepper_questions.specs.contracts.cell.ToldCellOrd.TheImpl.Laws.{total-law, matches_eq-law}
+use Rattle.stepper_questions.specs.declared.cell.ToldCell.{ToldCell}
+use Rattle.stepper_questions.specs.declared.cell.ToldCell.TheVariants as cell
 
 -- cells that the program's test finds equal
-exact : (a b : Cell) → (cell_test.ghosts).eq a b ≡ true → a ≡ b
+exact : (a b : ToldCell) → (cell_test.ghosts).eq a b ≡ true → a ≡ b
 exact (cell.Vat x) (cell.Vat y) h = ap cell.Vat (exact_text x y h)
 exact (cell.Noun v x) (cell.Noun w y) h = let p = and_parts _ _ h in ap₂ cell.Noun (exact_vat v w p.0) (exact_text x y p.1)
 exact (cell.Slot s) (cell.Slot t) h = ap cell.Slot (exact_slot s t h)
@@ -28,7 +28,7 @@ exact (cell.Board p) (cell.Board q) h = ap cell.Board (exact_promise p q h)
 exact _ _ h = cc
 
 -- the cell of a key
-pub cell_at : CellKey → Cell
+pub cell_at : CellKey → ToldCell
 cell_at (key.Name x) = cell.Vat x
 cell_at (key.Top v x) = cell.Noun v x
 cell_at (key.Slot s) = cell.Slot s
@@ -38,7 +38,7 @@ cell_at (key.Fence v r) = cell.Fence v r
 cell_at (key.Msg m) = cell.Message m
 cell_at (key.Board p) = cell.Board p
 
-cell_back : (c : Cell) → cell_at (key_of c) ≡ c
+cell_back : (c : ToldCell) → cell_at (key_of c) ≡ c
 unfolding cell_at
 cell_back (cell.Vat x) = refl
 cell_back (cell.Noun v x) = refl
@@ -65,7 +65,7 @@ pub exact_cells : CmpEqualImpliesEq cell_cmp
 exact_cells a b h = exact a b (matches_eq-law a b ∙ ap is_eq h)
 
 -- THE LEMMA
-pub cells_same : (a b : Cell) → is_eq (cell_cmp a b) ≡ same_key (key_of a) (key_of b)
+pub cells_same : (a b : ToldCell) → is_eq (cell_cmp a b) ≡ same_key (key_of a) (key_of b)
 cells_same a b = both_ways _ _
     (λ h. let one : a ≡ b = exact a b (matches_eq-law a b ∙ h) in ap (λ c. same_key (key_of a) (key_of c)) (sym one) ∙ same_self (key_of a))
     (λ h. let one : a ≡ b = sym (cell_back a) ∙ ap cell_at (same_exact (key_of a) (key_of b) h) ∙ cell_back b in ap (λ c. is_eq (cell_cmp a c)) (sym one) ∙ ap is_eq (tied_itself total-law a))

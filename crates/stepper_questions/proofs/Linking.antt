@@ -19,8 +19,8 @@ use Rattle.stepper_questions.specs.TouchedView.{seen_as, told_entries, SeenIn}
 use Rattle.stepper_questions.specs.Why.{step_text, is_by, crossed_with, first_crossed, Steps, steps_none, steps_more, Crossing, is_crossed, is_neither}
 use Rattle.stepper_questions.specs.WhyView.{crossed_in, link_text, links_text, IsLink, AreLinks, OpenChain}
 use Rattle.stepper_questions.specs.Writers.{Told, told, writer, first_cell}
-use Rattle.stepper_questions.specs.declared.cell.Cell.{Cell}
-use Rattle.stepper_questions.specs.declared.reason.Link.{Link}
+use Rattle.stepper_questions.specs.declared.cell.ToldCell.{ToldCell}
+use Rattle.stepper_questions.specs.declared.reason.ChainLink.{ChainLink}
 use Rattle.stepper_questions.specs.declared.touched.Seen.{Seen}
 use Rattle.stepper_questions.proofs.CellNames.{cell_at, key_back}
 use Rattle.stepper_questions.proofs.Consequences.{line_at}
@@ -30,7 +30,7 @@ use Rattle.stepper_questions.proofs.Stepping.{step_rises, chain_rises}
 use Rattle.stepper_questions.proofs.Touching.{seen_told, cells_told}
 
 -- where a cell that is listed is told of an event there is a first one
-first_some : (e : EventName) (test : Cell → Bool) (cells : List (Cell × Told)) (t : Told) → lookup test cells ≡ Some t → is_name t.writer e.0 ≡ true → is_some (first_cell (is_by e) cells) ≡ true
+first_some : (e : EventName) (test : ToldCell → Bool) (cells : List (ToldCell × Told)) (t : Told) → lookup test cells ≡ Some t → is_name t.writer e.0 ≡ true → is_some (first_cell (is_by e) cells) ≡ true
 first_some e test [] t h is = cc
 first_some e test (d ∷ cells) t h is = by (test d.0) refl h (is_name d.1.writer e.0) refl (first_some e test cells t)
   where
@@ -47,9 +47,9 @@ module _ (items : List Item) (journal : IsJournal items) (p q : ℕ) (a b : Item
   abbrev second : Line
   second = line_of items b
 
-  module _ (m : BTreeMap Cell Seen) (ordered : IsOrdered cell_cmp m) (seen : (c : Cell) → SeenIn b.lasts b.kept (key_of c) (seen_as m.entries c)) where
+  module _ (m : BTreeMap ToldCell Seen) (ordered : IsOrdered cell_cmp m) (seen : (c : ToldCell) → SeenIn b.lasts b.kept (key_of c) (seen_as m.entries c)) where
     -- a step goes by its first cell
-    pub link_is : (c : Cell) → first_cell (is_by a.event.name) (told_entries m.entries) ≡ Some c → IsLink (lines_of items) p q (record { from = a.event.name; to = b.event.name; cell = c })
+    pub link_is : (c : ToldCell) → first_cell (is_by a.event.name) (told_entries m.entries) ≡ Some c → IsLink (lines_of items) p q (record { from = a.event.name; to = b.event.name; cell = c })
     link_is c is = record {
       from = first;
       to = second;
@@ -67,7 +67,7 @@ module _ (items : List Item) (journal : IsJournal items) (p q : ℕ) (a b : Item
     link_there k s none =
         let to : s.to ≡ second = one_item (lines_of items) q s.to second s.ends (line_at items q b there) in
         let from : s.from ≡ first = one_item (lines_of items) p s.from first s.starts (line_at items p a at) in
-        let c : Cell = cell_at k in
+        let c : ToldCell = cell_at k in
         let key : key_of c ≡ k = key_back k in
         let listed = cells_told items journal q b there m ordered seen in
         let touched : touches plain second.entry.foot (key_of c) ≡ true = ap (touches plain second.entry.foot) key ∙ ap (λ (l : Line). touches plain l.entry.foot k) (sym to) ∙ s.touched in
@@ -78,12 +78,12 @@ module _ (items : List Item) (journal : IsJournal items) (p q : ℕ) (a b : Item
         let named : is_name t.writer a.event.name.0 ≡ true = ap (λ o. is_name o a.event.name.0) by_it ∙ eq-eqb a.event.name.0 a.event.name.0 refl in
         false≢true (ap is_some (sym none) ∙ first_some a.event.name (λ d. is_eq (cell_cmp c d)) (told_entries m.entries) t (sym (listed.listed c) ∙ told_is) named)
 
-    module _ (n : BTreeMap Cell Seen) (seen_first : (c : Cell) → SeenIn a.lasts a.kept (key_of c) (seen_as n.entries c)) where
+    module _ (n : BTreeMap ToldCell Seen) (seen_first : (c : ToldCell) → SeenIn a.lasts a.kept (key_of c) (seen_as n.entries c)) where
       crossed_same : first_cell (crossed_in n.entries) (told_entries m.entries) ≡ first_crossed (lines_of items) first.entry (told_entries m.entries)
       crossed_same = λ j. first_cell (λ c t. crossed_with (sym (seen_told items journal p a at n.entries seen_first c) j) t) (told_entries m.entries)
 
       -- the first cell at which they cross, or that there is none
-      pub crossing_is : (c : Cell) → first_cell (crossed_in n.entries) (told_entries m.entries) ≡ Some c → Crossing (lines_of items) p q (codes "crossed\n" ++ step_text a.event.name b.event.name c)
+      pub crossing_is : (c : ToldCell) → first_cell (crossed_in n.entries) (told_entries m.entries) ≡ Some c → Crossing (lines_of items) p q (codes "crossed\n" ++ step_text a.event.name b.event.name c)
       crossing_is c is = is_crossed (line_at items p a at) (line_at items q b there) (cells_told items journal q b there m ordered seen) (sym crossed_same ∙ is)
 
       pub crossing_none : first_cell (crossed_in n.entries) (told_entries m.entries) ≡ None → Crossing (lines_of items) p q (codes "none\n")
@@ -147,16 +147,16 @@ one_left (x ∷ []) zero h = (x, refl)
 one_left (x ∷ y ∷ xs) zero h = absurd (omega arith)
 one_left (x ∷ xs) (suc i) h = one_left xs i (omega arith)
 
-pub links_begin : (lines : List Line) (places : List ℕ) (i : ℕ) (links : List Link) → links ≡ [] → suc i ≡ length places → AreLinks lines (drop i places) links
+pub links_begin : (lines : List Line) (places : List ℕ) (i : ℕ) (links : List ChainLink) → links ≡ [] → suc i ≡ length places → AreLinks lines (drop i places) links
 links_begin lines places i links none h =
     let o = one_left places i h in
     subst (AreLinks lines (drop i places)) (sym none) (record { steps = subst (λ (ps : List ℕ). Steps lines ps []) (sym o.1) steps_none; count = sym (ap length o.1) })
 
-links_text-append : (links : List Link) (l : Link) → links_text (links ++ l ∷ []) ≡ links_text links ++ link_text l
+links_text-append : (links : List ChainLink) (l : ChainLink) → links_text (links ++ l ∷ []) ≡ links_text links ++ link_text l
 links_text-append [] l = append-nil (link_text l)
 links_text-append (k ∷ links) l = ap (λ t. link_text k ++ t) (links_text-append links l) ∙ sym (append_assoc (link_text k) (links_text links) (link_text l))
 
-pub links_next : (lines : List Line) (places : List ℕ) (left : ℕ) (links now : List Link) (l : Link) → now ≡ links ++ l ∷ [] → 0 < left → left < length places → AreLinks lines (drop left places) links
+pub links_next : (lines : List Line) (places : List ℕ) (left : ℕ) (links now : List ChainLink) (l : ChainLink) → now ≡ links ++ l ∷ [] → 0 < left → left < length places → AreLinks lines (drop left places) links
     → IsLink lines (get_or places left 0) (get_or places (left - 1) 0) l → AreLinks lines (drop (left - 1) places) now
 links_next lines places zero links now l pushed some lt are link = absurd (omega arith)
 links_next lines places (suc i) links now l pushed some lt are link =

@@ -25,7 +25,7 @@ use Rattle.stepper_printing.proofs.Listings.{entries_list}
 use Rattle.stepper_questions.specs.Cells.{key_of, cell_cmp}
 use Rattle.stepper_questions.specs.TouchedView.{has_cell, kept_has, told_of, seen_as, told_entries, SeenIn}
 use Rattle.stepper_questions.specs.Writers.{Told, writer, told, Cells}
-use Rattle.stepper_questions.specs.declared.cell.Cell.{Cell}
+use Rattle.stepper_questions.specs.declared.cell.ToldCell.{ToldCell}
 use Rattle.stepper_questions.specs.declared.touched.Seen.{Seen}
 use Rattle.stepper_questions.proofs.CellNames.{cells_same}
 use Rattle.stepper_questions.proofs.Consequences.{line_at}
@@ -48,10 +48,10 @@ any_more test (y ∷ xs) (suc i) x at = or_further (test y) _ _ (test x) (any_mo
 -- ---- the cells of records
 
 -- one record more
-pub record_more : (rs : List CellRecord) (i : ℕ) (r : CellRecord) (here : Cell) (old new : List Cell) → slice_get rs i ≡ Some r → key_of here ≡ (record_of r).0
-    → ((c : Cell) → list_any (is_at (cell_cmp c)) new ≡ cond (is_at (cell_cmp here) c) true (list_any (is_at (cell_cmp c)) old))
-    → ((c : Cell) → has_cell old c ≡ list_any (λ (s : CellRecord). same_key (record_of s).0 (key_of c)) (take i rs))
-    → (c : Cell) → has_cell new c ≡ list_any (λ (s : CellRecord). same_key (record_of s).0 (key_of c)) (take (i + 1) rs)
+pub record_more : (rs : List CellRecord) (i : ℕ) (r : CellRecord) (here : ToldCell) (old new : List ToldCell) → slice_get rs i ≡ Some r → key_of here ≡ (record_of r).0
+    → ((c : ToldCell) → list_any (is_at (cell_cmp c)) new ≡ cond (is_at (cell_cmp here) c) true (list_any (is_at (cell_cmp c)) old))
+    → ((c : ToldCell) → has_cell old c ≡ list_any (λ (s : CellRecord). same_key (record_of s).0 (key_of c)) (take i rs))
+    → (c : ToldCell) → has_cell new c ≡ list_any (λ (s : CellRecord). same_key (record_of s).0 (key_of c)) (take (i + 1) rs)
 record_more rs i r here old new at is updates so_far c =
     updates c
     ∙ ap (λ b. cond b true (has_cell old c)) (cells_same here c ∙ ap (λ k. same_key k (key_of c)) is)
@@ -70,8 +70,8 @@ record_more rs i r here old new at is updates so_far c =
     turned false false = refl
 
 -- all records
-pub records_all : (rs : List CellRecord) (i : ℕ) (cs : List Cell) → length rs ≤ i → ((c : Cell) → has_cell cs c ≡ list_any (λ (s : CellRecord). same_key (record_of s).0 (key_of c)) (take i rs))
-    → (c : Cell) → has_cell cs c ≡ kept_has (kepts_of rs) (key_of c)
+pub records_all : (rs : List CellRecord) (i : ℕ) (cs : List ToldCell) → length rs ≤ i → ((c : ToldCell) → has_cell cs c ≡ list_any (λ (s : CellRecord). same_key (record_of s).0 (key_of c)) (take i rs))
+    → (c : ToldCell) → has_cell cs c ≡ kept_has (kepts_of rs) (key_of c)
 records_all rs i cs done h c =
     h c ∙ ap (list_any (λ (s : CellRecord). same_key (record_of s).0 (key_of c))) (take_all i rs done)
     ∙ sym (any-map kept_of (λ (p : CellKey × _). same_key p.0 (key_of c)) rs)
@@ -108,10 +108,10 @@ widened ts i t kept k None at apart none =
 widened ts i t kept k (Some u) at apart (j, p, there, key, is) = (j, p, still_taken last_of ts i j p there, key, is)
 
 -- one touched cell more
-pub touched_more : (ts : List Touched) (i : ℕ) (t : Touched) (kept : Record cells) (here : Cell) (seen : Seen) (old new : List (Cell × Seen)) → slice_get ts i ≡ Some t → key_of here ≡ t.key
+pub touched_more : (ts : List Touched) (i : ℕ) (t : Touched) (kept : Record cells) (here : ToldCell) (seen : Seen) (old new : List (ToldCell × Seen)) → slice_get ts i ≡ Some t → key_of here ≡ t.key
     → seen.writer ≡ t.writer → seen.is_written ≡ kept_has kept (key_of here)
-    → ((c : Cell) → lookup (is_at (cell_cmp c)) new ≡ cond (is_at (cell_cmp here) c) (Some seen) (lookup (is_at (cell_cmp c)) old))
-    → ((c : Cell) → SeenIn (lasts_of (take i ts)) kept (key_of c) (seen_as old c)) → (c : Cell) → SeenIn (lasts_of (take (i + 1) ts)) kept (key_of c) (seen_as new c)
+    → ((c : ToldCell) → lookup (is_at (cell_cmp c)) new ≡ cond (is_at (cell_cmp here) c) (Some seen) (lookup (is_at (cell_cmp c)) old))
+    → ((c : ToldCell) → SeenIn (lasts_of (take i ts)) kept (key_of c) (seen_as old c)) → (c : ToldCell) → SeenIn (lasts_of (take (i + 1) ts)) kept (key_of c) (seen_as new c)
 touched_more ts i t kept here seen old new at is wrote_by written updates so_far c =
     let next : suc i ≡ i + 1 = omega arith in
     subst (λ n. SeenIn (lasts_of (take n ts)) kept (key_of c) (seen_as new c)) next
@@ -127,11 +127,11 @@ touched_more ts i t kept here seen old new at is wrote_by written updates so_far
     by false same = widened ts i t kept (key_of c) (seen_as old c) at same (so_far c)
 
 -- no cell yet
-pub touched_none : (ts : List Touched) (kept : Record cells) (es : List (Cell × Seen)) → es ≡ [] → (c : Cell) → SeenIn (lasts_of (take 0 ts)) kept (key_of c) (seen_as es c)
-touched_none ts kept es none c = subst (λ (fs : List (Cell × Seen)). SeenIn (lasts_of (take 0 ts)) kept (key_of c) (seen_as fs c)) (sym none) refl
+pub touched_none : (ts : List Touched) (kept : Record cells) (es : List (ToldCell × Seen)) → es ≡ [] → (c : ToldCell) → SeenIn (lasts_of (take 0 ts)) kept (key_of c) (seen_as es c)
+touched_none ts kept es none c = subst (λ (fs : List (ToldCell × Seen)). SeenIn (lasts_of (take 0 ts)) kept (key_of c) (seen_as fs c)) (sym none) refl
 
 -- all cells
-pub touched_all : (ts us : List Touched) (i : ℕ) (kept : Record cells) (es : List (Cell × Seen)) → us ≡ ts → length us ≤ i → ((c : Cell) → SeenIn (lasts_of (take i us)) kept (key_of c) (seen_as es c)) → (c : Cell) → SeenIn (lasts_of ts) kept (key_of c) (seen_as es c)
+pub touched_all : (ts us : List Touched) (i : ℕ) (kept : Record cells) (es : List (ToldCell × Seen)) → us ≡ ts → length us ≤ i → ((c : ToldCell) → SeenIn (lasts_of (take i us)) kept (key_of c) (seen_as es c)) → (c : ToldCell) → SeenIn (lasts_of ts) kept (key_of c) (seen_as es c)
 touched_all ts us i kept es is done h c = subst (λ (vs : List Touched). SeenIn (lasts_of vs) kept (key_of c) (seen_as es c)) (take_all i us done ∙ is) (h c)
 
 -- ---- what is told of them
@@ -146,7 +146,7 @@ wrote_kept (r ∷ kept) k = by (same_key r.0 k) (wrote_kept kept k)
 
 module _ (items : List Item) (journal : IsJournal items) (q : ℕ) (i : Item) (at : slice_get items q ≡ Some i) where
   -- what the program sees is what is told
-  pub seen_told : (es : List (Cell × Seen)) → ((c : Cell) → SeenIn i.lasts i.kept (key_of c) (seen_as es c)) → (c : Cell) → told (lines_of items) (line_of items i).entry (key_of c) ≡ seen_as es c
+  pub seen_told : (es : List (ToldCell × Seen)) → ((c : ToldCell) → SeenIn i.lasts i.kept (key_of c) (seen_as es c)) → (c : ToldCell) → told (lines_of items) (line_of items i).entry (key_of c) ≡ seen_as es c
   seen_told es seen c = by (seen_as es c) (seen c)
     where
       h : Tells (lines_of items)
@@ -168,7 +168,7 @@ module _ (items : List Item) (journal : IsJournal items) (q : ℕ) (i : Item) (a
           ∙ (λ n. Some (record { writer = by_it n; written = wrote_it n })) ∙ ap (λ (u : Told). let o : Option Told = Some u in o) (sym is)
 
   -- THE LEMMA: the entries of the map are the cells that the line touched
-  pub cells_told : (m : BTreeMap Cell Seen) → IsOrdered cell_cmp m → ((c : Cell) → SeenIn i.lasts i.kept (key_of c) (seen_as m.entries c)) → Cells (lines_of items) (line_of items i).entry (told_entries m.entries)
+  pub cells_told : (m : BTreeMap ToldCell Seen) → IsOrdered cell_cmp m → ((c : ToldCell) → SeenIn i.lasts i.kept (key_of c) (seen_as m.entries c)) → Cells (lines_of items) (line_of items i).entry (told_entries m.entries)
   cells_told m ordered seen =
       let listed = entries_list cell_cmp told_of m ordered in
       record { ordered = listed.ordered; listed = λ c. seen_told m.entries seen c ∙ listed.listed c }

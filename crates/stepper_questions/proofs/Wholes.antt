@@ -32,7 +32,7 @@ use Rattle.stepper_questions.specs.Objects.{object_of as object_of_world}
 use Rattle.stepper_questions.specs.Refusals.{standing_of}
 use Rattle.stepper_questions.specs.TouchedView.{seen_as, told_entries, SeenIn}
 use Rattle.stepper_questions.specs.ObjectView.{owned_of}
-use Rattle.stepper_questions.specs.declared.cell.Cell.{Cell}
+use Rattle.stepper_questions.specs.declared.cell.ToldCell.{ToldCell}
 use Rattle.stepper_questions.specs.declared.object.Owned.{Owned}
 use Rattle.stepper_questions.specs.declared.standing.Standing.TheVariants as standing
 use Rattle.stepper_questions.specs.declared.touched.Seen.{Seen}
@@ -43,8 +43,8 @@ use Rattle.stepper_questions.proofs.Touching.{cells_told}
 
 -- the line of an event, and its cells behind it
 pub event_is : (j : Journal) → IsJournal (items_of j) → (e : EventName) (place : ℕ) (d : Entry) → standing_of (length j.settled.now) (lines_of (items_of j)) e ≡ standing.Open place
-    → (m : BTreeMap Cell Seen) → IsOrdered cell_cmp m
-    → ((c : Cell) → SeenIn (item_of (get_or j.entries.now place d)).lasts (item_of (get_or j.entries.now place d)).kept (key_of c) (seen_as m.entries c))
+    → (m : BTreeMap ToldCell Seen) → IsOrdered cell_cmp m
+    → ((c : ToldCell) → SeenIn (item_of (get_or j.entries.now place d)).lasts (item_of (get_or j.entries.now place d)).kept (key_of c) (seen_as m.entries c))
     → (line : List ℕ) → ((i : Item) → slice_get (map item_of j.entries.now) place ≡ Some i → line ≡ entry_line (born (lines_of (items_of j))) (length j.settled.now + place + 1) (line_of (items_of j) i))
     → EventTold (lines_of (items_of j)) e (line ++ told_lines (told_entries m.entries))
 event_is j journal e place d stands m ordered seen line is =

@@ -8,11 +8,11 @@ use Rattle.stepper_questions.specs.Chains.{Nearest}
 use Rattle.stepper_questions.specs.Why.{Steps, Reason, is_chained, ReasonBetween, Why}
 use Rattle.stepper_questions.specs.Refusals.{place_of}
 use Rattle.stepper_questions.specs.WhyView.{chain_text, links_text, AreLinks}
-use Rattle.stepper_questions.specs.declared.reason.Link.{Link}
+use Rattle.stepper_questions.specs.declared.reason.ChainLink.{ChainLink}
 
 module _ (lines : List Line) where
   -- the steps of the nearest chain, behind how many they are
-  pub reason_chained : (s l : ℕ) (ps places : List ℕ) (links : List Link) → Nearest lines s l ps → places ≡ l ∷ ps → AreLinks lines places links → Reason lines s l (chain_text links)
+  pub reason_chained : (s l : ℕ) (ps places : List ℕ) (links : List ChainLink) → Nearest lines s l ps → places ≡ l ∷ ps → AreLinks lines places links → Reason lines s l (chain_text links)
   reason_chained s l ps places links nearest are along =
       let many : suc (length links) ≡ suc (length ps) = along.count ∙ ap length are in
       let count : length ps ≡ length links = omega arith in

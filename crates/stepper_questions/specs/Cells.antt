@@ -4,12 +4,12 @@ use Rattle.std.specs.declared.cmp.Ordering.{Ordering}
 use Rattle.ids.specs.Names.{event_text, message_text, promise_text, slot_text, object_text, reference_text}
 use Rattle.ids.specs.declared.cells.CellKey.{CellKey}
 use Rattle.ids.specs.declared.cells.CellKey.TheVariants as key
-use Rattle.stepper_questions.specs.contracts.cell.CellOrd.TheImpl as cell_order
-use Rattle.stepper_questions.specs.declared.cell.Cell.{Cell}
-use Rattle.stepper_questions.specs.declared.cell.Cell.TheVariants as cell
+use Rattle.stepper_questions.specs.contracts.cell.ToldCellOrd.TheImpl as cell_order
+use Rattle.stepper_questions.specs.declared.cell.ToldCell.{ToldCell}
+use Rattle.stepper_questions.specs.declared.cell.ToldCell.TheVariants as cell
 
 -- the key of a cell that is told
-abbrev pub key_of : Cell → CellKey
+abbrev pub key_of : ToldCell → CellKey
 key_of (cell.Vat x) = key.Name x
 key_of (cell.Noun v x) = key.Top v x
 key_of (cell.Slot s) = key.Slot s
@@ -20,11 +20,11 @@ key_of (cell.Message m) = key.Msg m
 key_of (cell.Board p) = key.Board p
 
 -- the order in which cells are told: that in which their kinds stand above, and within a kind by vat, then by name
-abbrev pub cell_cmp : Cell → Cell → Ordering
+abbrev pub cell_cmp : ToldCell → ToldCell → Ordering
 cell_cmp = (cell_order.ghosts).cmp
 
 -- vat NAME, noun V NAME, slot S, object O, view V P, fence V R, msg M, board P
-abbrev pub cell_text : Cell → List ℕ
+abbrev pub cell_text : ToldCell → List ℕ
 cell_text (cell.Vat x) = codes "vat " ++ x
 cell_text (cell.Noun v x) = codes "noun " ++ (event_text v.0 ++ (codes " " ++ x))
 cell_text (cell.Slot s) = codes "slot " ++ slot_text s

@@ -13,7 +13,7 @@ use Rattle.world_cells.specs.World.{message}
 use Rattle.stepper_printing.specs.Show.{message_line, names_text}
 use Rattle.stepper_questions.specs.Deliveries.{captured_lines, delivery_lines}
 use Rattle.stepper_questions.specs.declared.message.Caught.{Caught}
-use Rattle.stepper_questions.specs.declared.message.Waiting.{Waiting}
+use Rattle.stepper_questions.specs.declared.message.ToldWhen.{ToldWhen}
 use Rattle.stepper_questions.specs.declared.message.Delivered.{Delivered}
 use Rattle.stepper_questions.specs.declared.message.Delivered.TheVariants as delivered
 use Rattle.stepper_questions.specs.declared.message.ToldMessage.{ToldMessage}
@@ -37,7 +37,7 @@ abbrev pub caught_text : Option Caught → List ℕ
 caught_text None = []
 caught_text (Some c) = codes " catch " ++ (bound_name c.pattern.now ++ (codes " " ++ braced (option_map string_bytes c.block)))
 
-abbrev pub waiting_text : Waiting → List ℕ
+abbrev pub waiting_text : ToldWhen → List ℕ
 waiting_text w =
     codes " when " ++ (shown (val_of w.when.now.value) ++ (codes " -> " ++ (braced (option_map string_bytes w.block) ++ (caught_text w.caught ++ (10 ∷ captured_lines (nouns_of w.when.now.captured.value.items))))))
 

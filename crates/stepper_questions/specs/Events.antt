@@ -7,7 +7,7 @@ use Rattle.stepper_printing.specs.Listing.{born, entry_line}
 use Rattle.stepper_questions.specs.Cells.{cell_text}
 use Rattle.stepper_questions.specs.Refusals.{place_of}
 use Rattle.stepper_questions.specs.Writers.{Told, Cells}
-use Rattle.stepper_questions.specs.declared.cell.Cell.{Cell}
+use Rattle.stepper_questions.specs.declared.cell.ToldCell.{ToldCell}
 
 abbrev pub verb_text : Bool → List ℕ
 verb_text true = codes " wrote "
@@ -19,10 +19,10 @@ writer_text None = codes "-"
 writer_text (Some n) = event_text (record { 0 = n })
 
 --  read CELL WRITER, or wrote CELL WRITER
-abbrev pub told_line : Cell × Told → List ℕ
+abbrev pub told_line : ToldCell × Told → List ℕ
 told_line (c, t) = verb_text t.written ++ (cell_text c ++ (codes " " ++ (writer_text t.writer ++ (10 ∷ []))))
 
-abbrev pub told_lines : List (Cell × Told) → List ℕ
+abbrev pub told_lines : List (ToldCell × Told) → List ℕ
 told_lines [] = []
 told_lines (c ∷ cs) = told_line c ++ told_lines cs
 
@@ -32,6 +32,6 @@ pub record EventTold (lines : List Line) (e : EventName) (text : List ℕ) : Typ
   pub l : Line
   pub place : place_of lines e ≡ Some p
   pub at : slice_get lines p ≡ Some l
-  pub cells : List (Cell × Told)
+  pub cells : List (ToldCell × Told)
   pub touched : Cells lines l.entry cells
   pub whole : text ≡ entry_line (born lines) (p + 1) l ++ told_lines cells

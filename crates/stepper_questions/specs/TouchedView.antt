@@ -11,11 +11,11 @@ use Rattle.world_cells.specs.Theory.{cells}
 use Rattle.journal.specs.Items.{number_of}
 use Rattle.stepper_questions.specs.Cells.{cell_cmp}
 use Rattle.stepper_questions.specs.Writers.{Told}
-use Rattle.stepper_questions.specs.declared.cell.Cell.{Cell}
+use Rattle.stepper_questions.specs.declared.cell.ToldCell.{ToldCell}
 use Rattle.stepper_questions.specs.declared.touched.Seen.{Seen}
 
 -- a cell is among these
-abbrev pub has_cell : List Cell → Cell → Bool
+abbrev pub has_cell : List ToldCell → ToldCell → Bool
 has_cell cs c = list_any (is_at (cell_cmp c)) cs
 
 -- a record has the cell
@@ -26,11 +26,11 @@ abbrev pub told_of : Seen → Told
 told_of s = record { writer = number_of s.writer; written = s.is_written }
 
 -- what entries of a map tell of a cell
-abbrev pub seen_as : List (Cell × Seen) → Cell → Option Told
+abbrev pub seen_as : List (ToldCell × Seen) → ToldCell → Option Told
 seen_as es c = option_map told_of (lookup (is_at (cell_cmp c)) es)
 
 -- the entries of a map, as they are told
-abbrev pub told_entries : List (Cell × Seen) → List (Cell × Told)
+abbrev pub told_entries : List (ToldCell × Seen) → List (ToldCell × Told)
 told_entries es = map (λ e. (e.0, told_of e.1)) es
 
 -- what is told of a cell is what one of these last writers of it says, and whether a record has the cell; or none of these is of the cell

@@ -10,21 +10,21 @@ use Rattle.causality.specs.Selections.{name_of}
 use Rattle.stepper_questions.specs.Cells.{cell_text, key_of}
 use Rattle.stepper_questions.specs.Writers.{Told, told, Cells, first_cell}
 use Rattle.stepper_questions.specs.Chains.{Chain, Nearest}
-use Rattle.stepper_questions.specs.declared.cell.Cell.{Cell}
+use Rattle.stepper_questions.specs.declared.cell.ToldCell.{ToldCell}
 use Rattle.stepper_questions.specs.Refusals.{place_of}
 
 --  A B CELL
-abbrev pub step_text : EventName → EventName → Cell → List ℕ
+abbrev pub step_text : EventName → EventName → ToldCell → List ℕ
 step_text a b c = codes " " ++ (event_text a ++ (codes " " ++ (event_text b ++ (codes " " ++ (cell_text c ++ (10 ∷ []))))))
 
 -- the writer of a cell that is told is an event
-abbrev pub is_by : EventName → Cell → Told → Bool
+abbrev pub is_by : EventName → ToldCell → Told → Bool
 is_by e c t = is_name t.writer e.0
 
 -- the steps along a chain of places, the last one first, in their order: each by the first cell that leads from one line to the next
 pub data Steps (lines : List Line) : List ℕ → List ℕ → Type 0 where
   steps_none : {p : ℕ} → Steps lines (p ∷ []) []
-  steps_more : {p q : ℕ} {ps : List ℕ} {a b : Line} {cells : List (Cell × Told)} {c : Cell} {text : List ℕ}
+  steps_more : {p q : ℕ} {ps : List ℕ} {a b : Line} {cells : List (ToldCell × Told)} {c : ToldCell} {text : List ℕ}
       → Steps lines (p ∷ ps) text → slice_get lines p ≡ Some a → slice_get lines q ≡ Some b → Cells lines b.entry cells → first_cell (is_by (name_of a)) cells ≡ Some c
       → Steps lines (q ∷ p ∷ ps) (text ++ step_text (name_of a) (name_of b) c)
 
@@ -34,14 +34,14 @@ crossed_with None t = false
 crossed_with (Some u) t = u.written || t.written
 
 -- the first of the cells of a later entry at which an earlier one crosses it
-abbrev pub first_crossed : List Line → Entry plain → List (Cell × Told) → Option Cell
+abbrev pub first_crossed : List Line → Entry plain → List (ToldCell × Told) → Option ToldCell
 first_crossed lines a cells = first_cell (λ c t. crossed_with (told lines a (key_of c)) t) cells
 
 -- of the lines at two places: the first cell at which they cross, or that there is none
 pub data Crossing (lines : List Line) (s l : ℕ) : List ℕ → Type 0 where
-  is_crossed : {a b : Line} {cells : List (Cell × Told)} {c : Cell} → slice_get lines s ≡ Some a → slice_get lines l ≡ Some b → Cells lines b.entry cells → first_crossed lines a.entry cells ≡ Some c
+  is_crossed : {a b : Line} {cells : List (ToldCell × Told)} {c : ToldCell} → slice_get lines s ≡ Some a → slice_get lines l ≡ Some b → Cells lines b.entry cells → first_crossed lines a.entry cells ≡ Some c
       → Crossing lines s l (codes "crossed\n" ++ step_text (name_of a) (name_of b) c)
-  is_neither : {a b : Line} {cells : List (Cell × Told)} → slice_get lines s ≡ Some a → slice_get lines l ≡ Some b → Cells lines b.entry cells → first_crossed lines a.entry cells ≡ None
+  is_neither : {a b : Line} {cells : List (ToldCell × Told)} → slice_get lines s ≡ Some a → slice_get lines l ≡ Some b → Cells lines b.entry cells → first_crossed lines a.entry cells ≡ None
       → Crossing lines s l (codes "none\n")
 
 -- the nearest chain from one to the other with its steps, or where there is none how they cross

@@ -10,8 +10,8 @@ use Rattle.stepper_questions.specs.Refusals.{standing_of, event_refusal, pair_re
 use Rattle.stepper_questions.specs.TouchedView.{seen_as}
 use Rattle.stepper_questions.specs.Why.{step_text, is_by, crossed_with, Steps}
 use Rattle.stepper_questions.specs.Writers.{Told, Cells, first_cell}
-use Rattle.stepper_questions.specs.declared.cell.Cell.{Cell}
-use Rattle.stepper_questions.specs.declared.reason.Link.{Link}
+use Rattle.stepper_questions.specs.declared.cell.ToldCell.{ToldCell}
+use Rattle.stepper_questions.specs.declared.reason.ChainLink.{ChainLink}
 use Rattle.stepper_questions.specs.declared.reason.Relation.{Relation}
 use Rattle.stepper_questions.specs.declared.reason.Relation.TheVariants as relation
 use Rattle.stepper_questions.specs.declared.reason.ToldReason.{ToldReason}
@@ -20,19 +20,19 @@ use Rattle.stepper_questions.specs.declared.touched.Seen.{Seen}
 use Rattle.stepper_questions.specs.declared.unanswered.Unanswered.{Unanswered}
 
 -- another entry, which has these, crosses at a cell
-abbrev pub crossed_in : List (Cell × Seen) → Cell → Told → Bool
+abbrev pub crossed_in : List (ToldCell × Seen) → ToldCell → Told → Bool
 crossed_in es c t = crossed_with (seen_as es c) t
 
 -- the line of a step
-abbrev pub link_text : Link → List ℕ
+abbrev pub link_text : ChainLink → List ℕ
 link_text l = step_text l.from l.to l.cell
 
-abbrev pub links_text : List Link → List ℕ
+abbrev pub links_text : List ChainLink → List ℕ
 links_text [] = []
 links_text (l ∷ ls) = link_text l ++ links_text ls
 
 -- how many steps a chain has, and these
-abbrev pub chain_text : List Link → List ℕ
+abbrev pub chain_text : List ChainLink → List ℕ
 chain_text links = decimal (length links) ++ (10 ∷ links_text links)
 
 abbrev pub relation_text : Relation → List ℕ
@@ -45,19 +45,19 @@ abbrev pub reason_text : ToldReason → List ℕ
 reason_text t = codes "why " ++ (event_text t.event ++ (codes " " ++ (event_text t.other ++ (codes " " ++ relation_text t.relation))))
 
 -- this is the step between two places
-pub record IsLink (lines : List Line) (p q : ℕ) (link : Link) : Type 0 where
+pub record IsLink (lines : List Line) (p q : ℕ) (link : ChainLink) : Type 0 where
   pub from : Line
   pub to : Line
   pub starts : slice_get lines p ≡ Some from
   pub ends : slice_get lines q ≡ Some to
   pub leaves : link.from ≡ name_of from
   pub reaches : link.to ≡ name_of to
-  pub cells : List (Cell × Told)
+  pub cells : List (ToldCell × Told)
   pub listed : Cells lines to.entry cells
   pub first : first_cell (is_by (name_of from)) cells ≡ Some link.cell
 
 -- these are the steps along a chain of places, the last one first
-pub record AreLinks (lines : List Line) (places : List ℕ) (links : List Link) : Type 0 where
+pub record AreLinks (lines : List Line) (places : List ℕ) (links : List ChainLink) : Type 0 where
   pub steps : Steps lines places (links_text links)
   pub count : suc (length links) ≡ length places
 

@@ -7,7 +7,7 @@ use Rattle.ids.specs.declared.cells.CellKey.{CellKey}
 use Rattle.journal.specs.Lines.{plain, Line, entries_in}
 use Rattle.stepper_printing.specs.Show.{Lists}
 use Rattle.stepper_questions.specs.Cells.{key_of, cell_cmp}
-use Rattle.stepper_questions.specs.declared.cell.Cell.{Cell}
+use Rattle.stepper_questions.specs.declared.cell.ToldCell.{ToldCell}
 
 -- the last of an entry's causes, in the journal's order, that wrote a cell: whatever became of it since
 abbrev pub writer : List Line → Entry plain → CellKey → Option ℕ
@@ -23,10 +23,10 @@ abbrev pub told : List Line → Entry plain → CellKey → Option Told
 told lines e k = cond (touches plain e.foot k) (Some (record { writer = writer lines e k; written = wrote plain k e })) None
 
 -- the cells that an entry touched, each once and in order, found absent or not, with what is told of them
-abbrev pub Cells : List Line → Entry plain → List (Cell × Told) → Type 0
+abbrev pub Cells : List Line → Entry plain → List (ToldCell × Told) → Type 0
 Cells lines e cells = Lists cell_cmp (λ c. told lines e (key_of c)) cells
 
 -- the first of these cells that passes a test
-abbrev pub first_cell : (Cell → Told → Bool) → List (Cell × Told) → Option Cell
+abbrev pub first_cell : (ToldCell → Told → Bool) → List (ToldCell × Told) → Option ToldCell
 first_cell test [] = None
 first_cell test (c ∷ cs) = cond (test c.0 c.1) (Some c.0) (first_cell test cs)

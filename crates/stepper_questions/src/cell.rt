@@ -9,7 +9,7 @@ use std::alloc::AllocError;
 
 /// A cell, in the order in which questions tell cells: by kind, then by name.
 #[derive(PartialEq, Eq, PartialOrd, Ord, Drop)]
-pub enum Cell {
+pub enum ToldCell {
     /// What is known of a vat by its name.
     Vat(Text),
     /// What a name that a vat's script defined stands for.
@@ -27,38 +27,38 @@ pub enum Cell {
     Board(PromId),
 }
 
-impl Cell {
+impl ToldCell {
     ghost use Rattle.stepper_questions.specs.Cells.{key_of};
 
     /// The cell of a key. Fails only for want of memory.
-    pub fn of(key: &CellKey) -> Result<Cell, AllocError>
+    pub fn of(key: &CellKey) -> Result<ToldCell, AllocError>
         ensures { IfOk result (λ c. key_of c ≡ key.now) }
     {
         Ok(match key {
-            CellKey::Name(name) => Cell::Vat(name.share()?),
-            CellKey::Top(vat, name) => Cell::Noun(*vat, name.share()?),
-            CellKey::Slot(slot) => Cell::Slot(*slot),
-            CellKey::Object(object) => Cell::Object(*object),
-            CellKey::View(vat, promise) => Cell::View(*vat, *promise),
-            CellKey::Fence(vat, reference) => Cell::Fence(*vat, *reference),
-            CellKey::Msg(message) => Cell::Message(*message),
-            CellKey::Board(promise) => Cell::Board(*promise),
+            CellKey::Name(name) => ToldCell::Vat(name.share()?),
+            CellKey::Top(vat, name) => ToldCell::Noun(*vat, name.share()?),
+            CellKey::Slot(slot) => ToldCell::Slot(*slot),
+            CellKey::Object(object) => ToldCell::Object(*object),
+            CellKey::View(vat, promise) => ToldCell::View(*vat, *promise),
+            CellKey::Fence(vat, reference) => ToldCell::Fence(*vat, *reference),
+            CellKey::Msg(message) => ToldCell::Message(*message),
+            CellKey::Board(promise) => ToldCell::Board(*promise),
         })
     }
 
     /// The same cell, whose name is shared. Fails only for want of memory.
-    pub(crate) fn share(&self) -> Result<Cell, AllocError>
+    pub(crate) fn share(&self) -> Result<ToldCell, AllocError>
         ensures { IfOk result (λ c. c ≡ self.now) }
     {
         Ok(match self {
-            Cell::Vat(name) => Cell::Vat(name.share()?),
-            Cell::Noun(vat, name) => Cell::Noun(*vat, name.share()?),
-            Cell::Slot(slot) => Cell::Slot(*slot),
-            Cell::Object(object) => Cell::Object(*object),
-            Cell::View(vat, promise) => Cell::View(*vat, *promise),
-            Cell::Fence(vat, reference) => Cell::Fence(*vat, *reference),
-            Cell::Message(message) => Cell::Message(*message),
-            Cell::Board(promise) => Cell::Board(*promise),
+            ToldCell::Vat(name) => ToldCell::Vat(name.share()?),
+            ToldCell::Noun(vat, name) => ToldCell::Noun(*vat, name.share()?),
+            ToldCell::Slot(slot) => ToldCell::Slot(*slot),
+            ToldCell::Object(object) => ToldCell::Object(*object),
+            ToldCell::View(vat, promise) => ToldCell::View(*vat, *promise),
+            ToldCell::Fence(vat, reference) => ToldCell::Fence(*vat, *reference),
+            ToldCell::Message(message) => ToldCell::Message(*message),
+            ToldCell::Board(promise) => ToldCell::Board(*promise),
         })
     }
 }

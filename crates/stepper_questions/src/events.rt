@@ -11,7 +11,7 @@ ghost use Rattle.stepper_questions.specs.TouchedView.{told_of, told_entries};
 ghost use Rattle.stepper_questions.specs.WhyView.{IsOpen};
 ghost use Rattle.stepper_streams.specs.Outlet.{Tells};
 
-use crate::cell::Cell;
+use crate::cell::ToldCell;
 use crate::showing::put_cell;
 use crate::standing::Standing;
 use crate::touched::{Seen, touched_cells};
@@ -31,7 +31,7 @@ use stepper_streams::outlet::Outlet;
 #[derive(Drop)]
 pub struct ToldEvent<'j> {
     pub(crate) line: ListedEntry<'j>,
-    pub(crate) cells: BTreeMap<Cell, Seen>,
+    pub(crate) cells: BTreeMap<ToldCell, Seen>,
 }
 
 /// The place of an event behind the settled ones, or why it has none.
@@ -81,7 +81,7 @@ fn put_writer<W: Write>(writer: Option<EventName>, out: &mut Outlet<W>)
     }
 }
 
-fn put_seen<W: Write>(cell: &Cell, seen: Seen, out: &mut Outlet<W>)
+fn put_seen<W: Write>(cell: &ToldCell, seen: Seen, out: &mut Outlet<W>)
     ensures { Tells W.contents out.old out.new (told_line (cell.now, told_of seen)) }
 {
     out.put(verb(seen.is_written));
@@ -92,7 +92,7 @@ fn put_seen<W: Write>(cell: &Cell, seen: Seen, out: &mut Outlet<W>)
 }
 
 /// Puts cells with what an entry keeps of each, in their order.
-fn put_cells<W: Write>(cells: &BTreeMap<Cell, Seen>, out: &mut Outlet<W>)
+fn put_cells<W: Write>(cells: &BTreeMap<ToldCell, Seen>, out: &mut Outlet<W>)
     ensures { Tells W.contents out.old out.new (told_lines (told_entries cells.now.entries)) }
 {
     for (cell, seen) in cells.iter() {

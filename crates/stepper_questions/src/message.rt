@@ -40,7 +40,7 @@ pub(crate) struct Caught<'w> {
 
 /// A block that waits for a value.
 #[derive(Drop)]
-pub(crate) struct Waiting<'w> {
+pub(crate) struct ToldWhen<'w> {
     pub when: &'w When,
     pub block: ProgramText,
     pub caught: Option<Caught<'w>>,
@@ -52,7 +52,7 @@ pub(crate) enum Delivered<'w> {
     Opening(ProgramText),
     Asked(ProgramText),
     Sent(&'w Call),
-    Waiting(Waiting<'w>),
+    Waiting(ToldWhen<'w>),
 }
 
 /// A message, ready to be told.
@@ -80,10 +80,10 @@ fn caught_by<'w>(
     }
 }
 
-fn waiting_in<'w>(alloc: Global, when: &'w When) -> Result<Waiting<'w>, AllocError>
+fn waiting_in<'w>(alloc: Global, when: &'w When) -> Result<ToldWhen<'w>, AllocError>
     ensures { IfOk result (λ waiting. waiting_text waiting ≡ delivery_lines (model.waiting (when_of when.now))) }
 {
-    Ok(Waiting {
+    Ok(ToldWhen {
         when,
         block: program_text(alloc, &when.block)?,
         caught: caught_by(alloc, &when.handler)?,
@@ -185,7 +185,7 @@ fn put_caught<W: Write>(caught: &Option<Caught<'_>>, out: &mut Outlet<W>)
     }
 }
 
-fn put_waiting<W: Write>(waiting: &Waiting<'_>, out: &mut Outlet<W>)
+fn put_waiting<W: Write>(waiting: &ToldWhen<'_>, out: &mut Outlet<W>)
     ensures { Tells W.contents out.old out.new (waiting_text waiting.now) }
 {
     out.put(" when ");

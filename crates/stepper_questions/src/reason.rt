@@ -3,7 +3,7 @@ ghost use Rattle.std.specs.Prelude.{◌++◌, codes};
 ghost use Rattle.stepper_questions.specs.WhyView.{chain_text, link_text, links_text, reason_text, relation_text};
 ghost use Rattle.stepper_streams.specs.Outlet.{Tells};
 
-use crate::cell::Cell;
+use crate::cell::ToldCell;
 use crate::showing::put_cell;
 use ids::names::EventName;
 use std::io::Write;
@@ -12,19 +12,19 @@ use stepper_streams::outlet::Outlet;
 
 /// A step from an event to a later one, by a cell; or two events that cross at it.
 #[derive(Drop)]
-pub(crate) struct Link {
+pub(crate) struct ChainLink {
     pub from: EventName,
     pub to: EventName,
-    pub cell: Cell,
+    pub cell: ToldCell,
 }
 
 /// How a later event has to do with an earlier one.
 #[derive(Drop)]
 pub(crate) enum Relation {
     /// It came of it, by these steps.
-    Chained(Vec<Link>),
+    Chained(Vec<ChainLink>),
     /// It did not, but the two cross.
-    Crossed(Link),
+    Crossed(ChainLink),
     Neither,
 }
 
@@ -36,7 +36,7 @@ pub struct ToldReason {
     pub(crate) relation: Relation,
 }
 
-fn put_link<W: Write>(link: &Link, out: &mut Outlet<W>)
+fn put_link<W: Write>(link: &ChainLink, out: &mut Outlet<W>)
     ensures { Tells W.contents out.old out.new (link_text link.now) }
 {
     out.put(" ");
@@ -48,7 +48,7 @@ fn put_link<W: Write>(link: &Link, out: &mut Outlet<W>)
     out.put("\n");
 }
 
-fn put_links<W: Write>(links: &[Link], out: &mut Outlet<W>)
+fn put_links<W: Write>(links: &[ChainLink], out: &mut Outlet<W>)
     ensures { Tells W.contents out.old out.new (links_text links.now) }
 {
     for link in links {
@@ -57,7 +57,7 @@ fn put_links<W: Write>(links: &[Link], out: &mut Outlet<W>)
 }
 
 /// Puts how many steps a chain has, and each of them.
-fn put_chain<W: Write>(links: &[Link], out: &mut Outlet<W>)
+fn put_chain<W: Write>(links: &[ChainLink], out: &mut Outlet<W>)
     ensures { Tells W.contents out.old out.new (chain_text links.now) }
 {
     out.put_number(links.len());
@@ -65,7 +65,7 @@ fn put_chain<W: Write>(links: &[Link], out: &mut Outlet<W>)
     put_links(links, out);
 }
 
-fn put_crossed<W: Write>(link: &Link, out: &mut Outlet<W>)
+fn put_crossed<W: Write>(link: &ChainLink, out: &mut Outlet<W>)
     ensures { Tells W.contents out.old out.new (codes "crossed\n" ++ link_text link.now) }
 {
     out.put("crossed\n");

@@ -4,7 +4,7 @@ ghost use Rattle.ids.specs.Names.{event_text, message_text, promise_text, slot_t
 ghost use Rattle.stepper_questions.specs.Cells.{cell_text};
 ghost use Rattle.stepper_streams.specs.Outlet.{Tells};
 
-use crate::cell::Cell;
+use crate::cell::ToldCell;
 use ids::names::{MsgId, ObjId, PromId, SlotId, VatNo};
 use ids::reference::Reference;
 use std::io::Write;
@@ -76,17 +76,17 @@ fn put_board<W: Write>(promise: PromId, out: &mut Outlet<W>)
 }
 
 /// Puts the kind of a cell and its name, of a vat's own also the vat's birth.
-pub(crate) fn put_cell<W: Write>(cell: &Cell, out: &mut Outlet<W>)
+pub(crate) fn put_cell<W: Write>(cell: &ToldCell, out: &mut Outlet<W>)
     ensures { Tells W.contents out.old out.new (cell_text cell.now) }
 {
     match cell {
-        Cell::Vat(name) => put_name("vat ", name.as_str(), out),
-        Cell::Noun(vat, name) => put_noun(*vat, name.as_str(), out),
-        Cell::Slot(slot) => put_slot_cell(*slot, out),
-        Cell::Object(object) => put_object_cell(*object, out),
-        Cell::View(vat, promise) => put_view(*vat, *promise, out),
-        Cell::Fence(vat, reference) => put_fence(*vat, *reference, out),
-        Cell::Message(message) => put_message_cell(*message, out),
-        Cell::Board(promise) => put_board(*promise, out),
+        ToldCell::Vat(name) => put_name("vat ", name.as_str(), out),
+        ToldCell::Noun(vat, name) => put_noun(*vat, name.as_str(), out),
+        ToldCell::Slot(slot) => put_slot_cell(*slot, out),
+        ToldCell::Object(object) => put_object_cell(*object, out),
+        ToldCell::View(vat, promise) => put_view(*vat, *promise, out),
+        ToldCell::Fence(vat, reference) => put_fence(*vat, *reference, out),
+        ToldCell::Message(message) => put_message_cell(*message, out),
+        ToldCell::Board(promise) => put_board(*promise, out),
     }
 }

@@ -3,11 +3,11 @@ ghost use Rattle.std.specs.Prelude.{◌≡◌, IfOk};
 ghost use Rattle.std.specs.BTreeMap.{IsOrdered};
 ghost use Rattle.journal.specs.Items.{item_of};
 ghost use Rattle.world_cells.specs.Theory.{kepts_of};
-ghost use Rattle.stepper_questions.specs.declared.cell.Cell.{Cell};
+ghost use Rattle.stepper_questions.specs.declared.cell.ToldCell.{ToldCell};
 ghost use Rattle.stepper_questions.specs.Cells.{key_of, cell_cmp};
 ghost use Rattle.stepper_questions.specs.TouchedView.{has_cell, kept_has, seen_as, SeenIn};
 
-use crate::cell::Cell;
+use crate::cell::ToldCell;
 use ids::names::EventName;
 use journal::entry::Entry;
 use std::alloc::{AllocError, Global};
@@ -24,13 +24,13 @@ pub(crate) struct Seen {
 }
 
 /// The cells of records.
-fn written_cells(alloc: Global, records: &[CellRecord]) -> Result<BTreeSet<Cell>, AllocError>
-    ensures { IfOk result (λ cells. (c : Cell) → has_cell cells.keys c ≡ kept_has (kepts_of records.now) (key_of c)) }
+fn written_cells(alloc: Global, records: &[CellRecord]) -> Result<BTreeSet<ToldCell>, AllocError>
+    ensures { IfOk result (λ cells. (c : ToldCell) → has_cell cells.keys c ≡ kept_has (kepts_of records.now) (key_of c)) }
 {
     let mut cells = BTreeSet::new(alloc);
     for record in records {
         let key = record.key()?;
-        cells.insert(Cell::of(&key)?)?;
+        cells.insert(ToldCell::of(&key)?)?;
     }
     Ok(cells)
 }
@@ -39,14 +39,14 @@ fn written_cells(alloc: Global, records: &[CellRecord]) -> Result<BTreeSet<Cell>
 pub(crate) fn touched_cells(
     alloc: Global,
     entry: &Entry,
-) -> Result<BTreeMap<Cell, Seen>, AllocError>
-    ensures seen { IfOk result (λ cells. (c : Cell) → SeenIn (item_of entry.now).lasts (item_of entry.now).kept (key_of c) (seen_as cells.entries c)) }
+) -> Result<BTreeMap<ToldCell, Seen>, AllocError>
+    ensures seen { IfOk result (λ cells. (c : ToldCell) → SeenIn (item_of entry.now).lasts (item_of entry.now).kept (key_of c) (seen_as cells.entries c)) }
     ensures ordered { IfOk result (λ cells. IsOrdered cell_cmp cells) }
 {
     let written = written_cells(alloc, &entry.records)?;
     let mut cells = BTreeMap::new(alloc);
     for touched in &entry.touched {
-        let cell = Cell::of(&touched.key)?;
+        let cell = ToldCell::of(&touched.key)?;
         let seen = Seen {
             writer: touched.writer,
             is_written: written.contains(&cell),

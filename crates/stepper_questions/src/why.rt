@@ -12,9 +12,9 @@ ghost use Rattle.stepper_questions.specs.Why.{Why, Crossing, Reason, ReasonBetwe
 ghost use Rattle.stepper_questions.specs.WhyView.{crossed_in, reason_text, relation_text, AreLinks, IsLink, OpenChain, BothOpen};
 ghost use Rattle.stepper_questions.specs.Writers.{first_cell};
 
-use crate::cell::Cell;
+use crate::cell::ToldCell;
 use crate::chain::nearest_chain;
-use crate::reason::{Link, Relation, ToldReason};
+use crate::reason::{ChainLink, Relation, ToldReason};
 use crate::standing::Standing;
 use crate::touched::{Seen, touched_cells};
 use crate::unanswered::Unanswered;
@@ -25,7 +25,7 @@ use std::alloc::{AllocError, Global};
 use std::collections::BTreeMap;
 
 /// The first of these cells that an event wrote.
-fn first_by(cells: &BTreeMap<Cell, Seen>, writer: EventName) -> Option<&Cell>
+fn first_by(cells: &BTreeMap<ToldCell, Seen>, writer: EventName) -> Option<&ToldCell>
     ensures { option_copied result ≡ first_cell (is_by writer) (told_entries cells.now.entries) }
 {
     for (cell, seen) in cells.iter() {
@@ -38,9 +38,9 @@ fn first_by(cells: &BTreeMap<Cell, Seen>, writer: EventName) -> Option<&Cell>
 
 /// The first of the cells of a later entry that an earlier one touched too, and one of the two wrote.
 fn first_crossed<'a>(
-    earlier: &BTreeMap<Cell, Seen>,
-    later: &'a BTreeMap<Cell, Seen>,
-) -> Option<&'a Cell>
+    earlier: &BTreeMap<ToldCell, Seen>,
+    later: &'a BTreeMap<ToldCell, Seen>,
+) -> Option<&'a ToldCell>
     ensures { option_copied result ≡ first_cell (crossed_in earlier.now.entries) (told_entries later.now.entries) }
 {
     for (cell, seen) in later.iter() {
@@ -64,7 +64,7 @@ fn open_entry(journal: Journal<'_>, place: usize) -> &Entry
 }
 
 /// The step from one entry to another, of which it came. Fails only for want of memory.
-fn link_of(alloc: Global, journal: Journal, from: usize, to: usize) -> Result<Link, AllocError>
+fn link_of(alloc: Global, journal: Journal, from: usize, to: usize) -> Result<ChainLink, AllocError>
     requires journal { IsJournal (items_of journal) }
     requires behind { length journal.settled.now ≤ from }
     requires there { to < length journal.settled.now + length journal.entries.now }
@@ -75,7 +75,7 @@ fn link_of(alloc: Global, journal: Journal, from: usize, to: usize) -> Result<Li
     let later = open_entry(journal, to);
     let cells = touched_cells(alloc, later)?;
     match first_by(&cells, earlier.event.name) {
-        Some(cell) => Ok(Link {
+        Some(cell) => Ok(ChainLink {
             from: earlier.event.name,
             to: later.event.name,
             cell: cell.share()?,
@@ -85,7 +85,11 @@ fn link_of(alloc: Global, journal: Journal, from: usize, to: usize) -> Result<Li
 }
 
 /// The steps along the places of a chain, the last one first, in their order. Fails only for want of memory.
-fn links_along(alloc: Global, journal: Journal, places: &[usize]) -> Result<Vec<Link>, AllocError>
+fn links_along(
+    alloc: Global,
+    journal: Journal,
+    places: &[usize],
+) -> Result<Vec<ChainLink>, AllocError>
     requires journal { IsJournal (items_of journal) }
     requires chain { OpenChain (lines_of (items_of journal)) (length journal.settled.now) (length journal.settled.now + length journal.entries.now) places.now }
     ensures { IfOk result (λ links. AreLinks (lines_of (items_of journal.entry)) places.now links.items) }
@@ -117,7 +121,7 @@ fn crossing_of(
     let mine = touched_cells(alloc, earlier)?;
     let others = touched_cells(alloc, later)?;
     match first_crossed(&mine, &others) {
-        Some(cell) => Ok(Relation::Crossed(Link {
+        Some(cell) => Ok(Relation::Crossed(ChainLink {
             from: earlier.event.name,
             to: later.event.name,
             cell: cell.share()?,

@@ -26,7 +26,7 @@ use Rattle.crossbeam_channel.specs.contracts.channel.Receiver as receiver
 use Rattle.crossbeam_channel.proofs.channel.Sender.TheSendSync as senders
 use Rattle.crossbeam_channel.proofs.channel.Receiver.TheSendSync as receivers
 use Rattle.bench.specs.declared.seat.Opening.{Ghosts}
-use Rattle.bench.specs.contracts.under_lock.Desk as desk
+use Rattle.bench.specs.contracts.under_lock.SharedBook as shared
 use Rattle.bench.specs.contracts.work.Busy as busy
 use Rattle.bench.specs.contracts.work.Free as free
 use Rattle.bench.proofs.work.Free.TheSendSync as frees
@@ -38,11 +38,11 @@ module _ (L : RattleType) (g : Ghosts L.Denot) (parts : Parts L.Denot) where
   pub busy_send : IsSend (busy.the_row L g parts)
   busy_send = search (seats.the_send, returned_crosses, sendable, crosses) depth 40
 
-  pub desk_send : IsSend (desk.the_row L g parts)
-  desk_send = search (book_crosses, tokens.the_send, ledgers.the_send, shares.the_send, phantoms.the_field_send, sendable, crosses) depth 40
+  pub shared_send : IsSend (shared.the_row L g parts)
+  shared_send = search (book_crosses, tokens.the_send, ledgers.the_send, shares.the_send, phantoms.the_field_send, sendable, crosses) depth 40
 
   pub bench_sync : IsSync (bench.the_row L g parts)
-  bench_sync = search (desk_send, locks.the_sync, cells.the_field_sync, sendable, crosses) depth 40
+  bench_sync = search (shared_send, locks.the_sync, cells.the_field_sync, sendable, crosses) depth 40
 
   -- what a worker holds: the runtime, its place, the gate, its number, its way to the committer, and the way back
   abbrev pub held : (place runtime gate : RattleType) (a b c : NamedLft) → List RattleType

@@ -1,7 +1,7 @@
 use Rattle.std.proofs.Common.{All, sym, subst}
 use Rattle.book.specs.BookView.{book_of}
 use Rattle.book.specs.declared.book.Book.{Book}
-use Rattle.bench.specs.Desk.{Answers, Held}
+use Rattle.bench.specs.SharedBook.{Answers, Held}
 use Rattle.bench.proofs.Bench.close.Goals as goal
 
 pub returns-clause-seats : goal.returns-clause-seats

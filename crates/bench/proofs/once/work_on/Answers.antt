@@ -7,11 +7,11 @@ use Rattle.crossbeam_utils.proofs.atomic.seq_cell.Wide.TheSendSync as cells
 use Rattle.book.specs.Books.{Book}
 use Rattle.book.specs.BookView.{book_of}
 use Rattle.book_crew.specs.Work.{StopsWork, Worked}
-use Rattle.bench.proofs.crossing.Shared.{desk_send}
+use Rattle.bench.proofs.crossing.Shared.{shared_send}
 use Rattle.bench.proofs.once.work_on.Goals as goal
 
 pub work_at-worked-requires-sync-P : goal.work_at-worked-requires-sync-P
-work_at-worked-requires-sync-P g c κs within = search (desk_send, locks.the_sync, cells.the_field_sync, sendable, crosses) depth 40
+work_at-worked-requires-sync-P g c κs within = search (shared_send, locks.the_sync, cells.the_field_sync, sendable, crosses) depth 40
 
 pub returns-in-Err-true-clause-err : goal.returns-in-Err-true-clause-err
 returns-in-Err-true-clause-err g c =

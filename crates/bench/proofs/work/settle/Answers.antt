@@ -1,6 +1,6 @@
 use Rattle.std.proofs.Common.{◌≡◌, [], ◌∷◌, sym, ap, ◌∙◌}
 use Rattle.turn.specs.declared.ticket.Ran.{Ran}
-use Rattle.bench.specs.Desk.{Held}
+use Rattle.bench.specs.SharedBook.{Held}
 use Rattle.bench.proofs.Alone.{stays_open}
 use Rattle.bench.proofs.work.settle.Goals as goal
 

@@ -8,14 +8,14 @@ use Rattle.book.specs.BookView.{book_of}
 use Rattle.book.proofs.Admitting.{arrival_does, room_for_arrival}
 use Rattle.book.proofs.book.Book.arrive_as.Goals as goal
 
-pub enter-requires-clause-possible : goal.enter-requires-clause-possible
-enter-requires-clause-possible c =
+pub enter_event-requires-clause-possible : goal.enter_event-requires-clause-possible
+enter_event-requires-clause-possible c =
     let b = book_of c.args.self.now in
     let h = message_of c.in_ok-event.arrived in
     (moved_foot [] c.args.name h, record { does = ∣ quietly (arrival_does b c.args.name c.in_ok-event.event h c.in_ok-event.ensures.ok) refl _ c.in_ok-effects.ensures.quiet ∣₁; brings = c.in_ok-effects.ensures.brings })
 
-pub enter-requires-clause-room : goal.enter-requires-clause-room
-enter-requires-clause-room c = room_for_arrival (book_of c.args.self.now) c.args.name c.in_ok-event.ensures.ok.refusal
+pub enter_event-requires-clause-room : goal.enter_event-requires-clause-room
+enter_event-requires-clause-room c = room_for_arrival (book_of c.args.self.now) c.args.name c.in_ok-event.ensures.ok.refusal
 
 pub returns-clause-ok : goal.returns-clause-ok
 returns-clause-ok c =
@@ -24,4 +24,4 @@ returns-clause-ok c =
     let h = message_of c.in_ok-event.arrived in
     let f = moved_foot [] c.args.name h in
     let happens : Happens (record { name = e; act = arrive c.args.name }) f b.world c.in_ok-effects.effects = record { does = ∣ quietly (arrival_does b c.args.name e h c.in_ok-event.ensures.ok) refl _ c.in_ok-effects.ensures.quiet ∣₁; brings = c.in_ok-effects.ensures.brings } in
-    (c.in_ok-event.ensures.ok.refusal, (f, c.in_ok-enter.ensures.ok f happens))
+    (c.in_ok-event.ensures.ok.refusal, (f, c.in_ok-enter_event.ensures.ok f happens))

@@ -15,8 +15,8 @@ use Rattle.book.specs.Refusals.{birth_refusal}
 use Rattle.book.proofs.Within.{room_for_birth}
 use Rattle.book.proofs.book.Book.birth_as.Goals as goal
 
-pub enter-requires-clause-possible : goal.enter-requires-clause-possible
-enter-requires-clause-possible c =
+pub enter_event-requires-clause-possible : goal.enter_event-requires-clause-possible
+enter_event-requires-clause-possible c =
     let e = c.in_ok-event.event in
     let x = c.args.name.now in
     let q = trees_of_codes c.in_ok-script.script.items.value.items in
@@ -30,8 +30,8 @@ enter-requires-clause-possible c =
     subst (λ (xs : List Name). Brings e (birth_foot e x xs n.vats q) it.touched.items (kepts_of it.records.items)) c.deref-2.ensures.value (c.in_ok-effects.ensures.brings n.vats (n.numbered ∙ sym c.deref-3.ensures.value) tops) in
     (f, subst (λ (y : Name). Happens (record { name = e; act = birth y names q }) f w it) (sym c.in_ok-share.ensures) (record { does = ∣ quietly (births n.vats c.in_ok-event.ensures.ok.2 n.named) refl it.notes.items c.in_ok-effects.ensures.quiet ∣₁; brings = brings }))
 
-pub enter-requires-clause-room : goal.enter-requires-clause-room
-enter-requires-clause-room c =
+pub enter_event-requires-clause-room : goal.enter_event-requires-clause-room
+enter_event-requires-clause-room c =
     room_for_birth (book_of c.args.self.now) c.args.name.now c.deref.result.now (program_of c.args.script) c.in_ok-event.ensures.ok.4
 
 pub returns-clause-ok : goal.returns-clause-ok
@@ -52,8 +52,8 @@ returns-clause-ok c =
       subst (λ (xs : List Name). birth_refusal b x xs (program_of c.args.script) ≡ None) c.deref.ensures.value c.in_ok-event.ensures.ok.4,
       (
         n.vats,
-        subst (λ (ts : Trees). EntersNext (record { name = e; act = birth x names ts }) (birth_foot e x names n.vats ts) c.args.seat b (book_of c.enter.new.self)) c.in_ok-script.ensures
-            (subst (λ (y : Name). EntersNext (record { name = e; act = birth y names q }) f c.args.seat b (book_of c.enter.new.self)) c.in_ok-share.ensures
-            (c.in_ok-enter.ensures.ok f (subst (λ (y : Name). Happens (record { name = e; act = birth y names q }) f w it) (sym c.in_ok-share.ensures) h))),
+        subst (λ (ts : Trees). EntersNext (record { name = e; act = birth x names ts }) (birth_foot e x names n.vats ts) c.args.seat b (book_of c.enter_event.new.self)) c.in_ok-script.ensures
+            (subst (λ (y : Name). EntersNext (record { name = e; act = birth y names q }) f c.args.seat b (book_of c.enter_event.new.self)) c.in_ok-share.ensures
+            (c.in_ok-enter_event.ensures.ok f (subst (λ (y : Name). Happens (record { name = e; act = birth y names q }) f w it) (sym c.in_ok-share.ensures) h))),
       ),
     )

@@ -11,8 +11,8 @@ use Rattle.book.specs.BookView.{book_of}
 use Rattle.book.proofs.Admitting.{forward_does, room_for_forward}
 use Rattle.book.proofs.book.Book.forward_as.Goals as goal
 
-pub enter-requires-clause-possible : goal.enter-requires-clause-possible
-enter-requires-clause-possible c =
+pub enter_event-requires-clause-possible : goal.enter_event-requires-clause-possible
+enter_event-requires-clause-possible c =
     let b = book_of c.args.self.now in
     let e = c.in_ok-event.event in
     let h = message_of c.in_ok-event.forwarded in
@@ -21,8 +21,8 @@ enter-requires-clause-possible c =
     subst (λ (through : List PromId). Brings e (moved_foot (map key.Board through) c.args.name h) c.in_ok-effects.effects.touched.items (kepts_of c.in_ok-effects.effects.records.items)) c.deref.ensures.value c.in_ok-effects.ensures.brings in
     (moved_foot (map key.Board ps) c.args.name h, record { does = ∣ quietly (forward_does b c.args.name e h ps c.in_ok-event.ensures.ok) refl _ c.in_ok-effects.ensures.quiet ∣₁; brings = brings })
 
-pub enter-requires-clause-room : goal.enter-requires-clause-room
-enter-requires-clause-room c = room_for_forward (book_of c.args.self.now) c.args.name c.in_ok-event.ensures.ok.refusal
+pub enter_event-requires-clause-room : goal.enter_event-requires-clause-room
+enter_event-requires-clause-room c = room_for_forward (book_of c.args.self.now) c.args.name c.in_ok-event.ensures.ok.refusal
 
 pub returns-clause-ok : goal.returns-clause-ok
 returns-clause-ok c =
@@ -34,4 +34,4 @@ returns-clause-ok c =
     let brings : Brings e f c.in_ok-effects.effects.touched.items (kepts_of c.in_ok-effects.effects.records.items) =
     subst (λ (through : List PromId). Brings e (moved_foot (map key.Board through) c.args.name h) c.in_ok-effects.effects.touched.items (kepts_of c.in_ok-effects.effects.records.items)) c.deref.ensures.value c.in_ok-effects.ensures.brings in
     let happens : Happens (record { name = e; act = forward c.args.name }) f b.world c.in_ok-effects.effects = record { does = ∣ quietly (forward_does b c.args.name e h ps c.in_ok-event.ensures.ok) refl _ c.in_ok-effects.ensures.quiet ∣₁; brings = brings } in
-    (c.in_ok-event.ensures.ok.refusal, (f, c.in_ok-enter.ensures.ok f happens))
+    (c.in_ok-event.ensures.ok.refusal, (f, c.in_ok-enter_event.ensures.ok f happens))

@@ -20,7 +20,7 @@ returns-clause-ok c =
     let x = c.args.name.now in
     let v = vat_of c.in-Some.vat.now in
     let named : vat_named b.world x ≡ Some v = ap vat_in (sym c.in-Some.ensures) in
-    IfOk-weaker c.learn_at_as.result _ _ (λ e h. (named_learning b x v c.args.promise named ∙ h.0, (v, h.1.0, named, h.1.1))) c.learn_at_as.ensures.ok
+    IfOk-weaker c.learn_at.result _ _ (λ e h. (named_learning b x v c.args.promise named ∙ h.0, (v, h.1.0, named, h.1.1))) c.learn_at.ensures.ok
 
 pub returns-clause-err : goal.returns-clause-err
 returns-clause-err c =
@@ -28,4 +28,4 @@ returns-clause-err c =
     let x = c.args.name.now in
     let v = vat_of c.in-Some.vat.now in
     let named : vat_named b.world x ≡ Some v = ap vat_in (sym c.in-Some.ensures) in
-    IfErr-weaker c.learn_at_as.result _ _ (λ f h. subst (Tells f) (sym (named_learning b x v c.args.promise named)) h) c.learn_at_as.ensures.err
+    IfErr-weaker c.learn_at.result _ _ (λ f h. subst (Tells f) (sym (named_learning b x v c.args.promise named)) h) c.learn_at.ensures.err

@@ -40,7 +40,7 @@ returns-in-Some-2-clause-err c =
     let named : vat_named b.world x ≡ Some v = ap vat_in (sym c.in-Some.ensures) in
     let p = c.in-Some-2.promise in
     let known : KnownAs (can_learn b.world) v.number c.args.event c.args.index (Some p) = subst (KnownAs (can_learn b.world) v.number c.args.event c.args.index) c.in-Some-2.is c.in_ok-promise.ensures.known in
-    IfErr-weaker c.learn_at_as.result _ _ (λ f h. tells_known b x c.args.event c.args.index v named p known f (subst (λ (o : Book). Tells f (learning_refusal o v.number p)) c.in_ok-promise.ensures.same h)) c.learn_at_as.ensures.err
+    IfErr-weaker c.learn_at.result _ _ (λ f h. tells_known b x c.args.event c.args.index v named p known f (subst (λ (o : Book). Tells f (learning_refusal o v.number p)) c.in_ok-promise.ensures.same h)) c.learn_at.ensures.err
 
 pub returns-in-Some-2-clause-ok : goal.returns-in-Some-2-clause-ok
 returns-in-Some-2-clause-ok c =
@@ -50,18 +50,18 @@ returns-in-Some-2-clause-ok c =
     let named : vat_named b.world x ≡ Some v = ap vat_in (sym c.in-Some.ensures) in
     let p = c.in-Some-2.promise in
     let known : KnownAs (can_learn b.world) v.number c.args.event c.args.index (Some p) = subst (KnownAs (can_learn b.world) v.number c.args.event c.args.index) c.in-Some-2.is c.in_ok-promise.ensures.known in
-    let now = book_of c.learn_at_as.new.self in
-    IfOk-weaker c.learn_at_as.result _ _ (λ e h.
+    let now = book_of c.learn_at.new.self in
+    IfOk-weaker c.learn_at.result _ _ (λ e h.
     let k = subst (λ (o : Book). (learning_refusal o v.number p ≡ None) × ((f : Foot) × EntersNext (record { name = e; act = learn v.number p }) f 0 o now)) c.in_ok-promise.ensures.same h in
-    learns_known b x c.args.event c.args.index v named p known e now k.0 k.1.0 k.1.1) c.learn_at_as.ensures.ok
+    learns_known b x c.args.event c.args.index v named p known e now k.0 k.1.0 k.1.1) c.learn_at.ensures.ok
 
 pub returns-in-Some-2-clause-counted : goal.returns-in-Some-2-clause-counted
 returns-in-Some-2-clause-counted c =
     let s = c.args.self.now in
     let mid = c.known_as.new.self in
-    let now = c.learn_at_as.new.self in
+    let now = c.learn_at.new.self in
     let same = ap (λ (b : Book). b.journal) c.in_ok-promise.ensures.same in
-    on_ok_weaker c.learn_at_as.result (counts_from (book_of s).journal (book_of mid).journal (book_of now).journal (swaps_of s) (swaps_of mid) (swaps_of now) same c.known_as.ensures.counted) c.learn_at_as.ensures.counted
+    on_ok_weaker c.learn_at.result (counts_from (book_of s).journal (book_of mid).journal (book_of now).journal (swaps_of s) (swaps_of mid) (swaps_of now) same c.known_as.ensures.counted) c.learn_at.ensures.counted
 
 pub returns-in-Some-2-clause-none : goal.returns-in-Some-2-clause-none
-returns-in-Some-2-clause-none c = on_err_weaker c.learn_at_as.result (λ e. e ∙ c.known_as.ensures.counted) c.learn_at_as.ensures.none
+returns-in-Some-2-clause-none c = on_err_weaker c.learn_at.result (λ e. e ∙ c.known_as.ensures.counted) c.learn_at.ensures.none
