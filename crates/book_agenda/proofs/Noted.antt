@@ -8,6 +8,7 @@ use Rattle.std.specs.Map.Iter.{deref_pair}
 use Rattle.std.specs.Option.{option_map}
 use Rattle.std.specs.Ordering.{is_eq}
 use Rattle.std.specs.BTreeMap.{BTreeMap, get}
+use Rattle.std.specs.declared.alloc.Global.{Global}
 use Rattle.std.specs.declared.vec.Vec.{Vec}
 use Rattle.std.proofs.lemmas.Cmp.{back_total, eq_by_cmp_equiv}
 use Rattle.std.proofs.lemmas.Map.Views.{list_any-from_Contains}
@@ -163,7 +164,7 @@ noted_all w a b d waiting indexed watchers tells opens known f g = record {
 }
   where
     same_told : (b d : Agenda) → NotesViews w (λ p v. is_some (vat_state w v (view_cell p))) b d → (m : MsgId) → cues d m ≡ cues b m
-    same_told b d g m = ap (λ (s : BTreeMap MsgId (Vec Cue)). cues_if (get message_cmp s m)) g.tells
+    same_told b d g m = ap (λ (s : BTreeMap MsgId (Vec Cue Global)). cues_if (get message_cmp s m)) g.tells
 
 -- ---- what is read of a vat's view
 

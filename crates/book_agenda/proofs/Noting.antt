@@ -3,6 +3,7 @@ use Rattle.std.proofs.Common.{◌≡◌, Bool, true, false, ◌&&◌, ◌||◌, 
 use Rattle.std.specs.List.{list_any}
 use Rattle.std.specs.BTreeMap.{BTreeMap, get}
 use Rattle.std.specs.BTreeSet.{BTreeSet, contains}
+use Rattle.std.specs.declared.alloc.Global.{Global}
 use Rattle.std.specs.declared.vec.Vec.{Vec}
 use Rattle.std.specs.Ordering.{is_eq}
 use Rattle.std.proofs.lemmas.Bool.{and_parts}
@@ -133,7 +134,7 @@ listed_anew m ks stays here a b keeps told same listed = λ c n. keeps c n ∙ b
         ∙ listed c n ∙ ap (λ l. is_cue l c) (sym (told n ∙ ap (λ x. cond x here (cues a n)) e))
 
 -- no cell tells of it any more
-pub unwatched : (m : MsgId) (a b : Agenda) (o : Option (Vec Cue)) → o ≡ get message_cmp a.cues m → ((n : MsgId) → get message_cmp b.cues n ≡ cond (is_eq (message_cmp m n)) None (get message_cmp a.cues n))
+pub unwatched : (m : MsgId) (a b : Agenda) (o : Option (Vec Cue Global)) → o ≡ get message_cmp a.cues m → ((n : MsgId) → get message_cmp b.cues n ≡ cond (is_eq (message_cmp m n)) None (get message_cmp a.cues n))
     → KeepsEach m (cues_if o) false a.watchers b.watchers → b.waiting ≡ a.waiting → b.open ≡ a.open → b.known ≡ a.known → Watches m [] a b
 unwatched m a b o was gone keeps waits opens knows = record {
   told = told;
@@ -147,7 +148,7 @@ unwatched m a b o was gone keeps waits opens knows = record {
     never true = refl
     never false = refl
 
-    none_if : (e : Bool) (x : Option (Vec Cue)) → cues_if (cond e None x) ≡ cond e [] (cues_if x)
+    none_if : (e : Bool) (x : Option (Vec Cue Global)) → cues_if (cond e None x) ≡ cond e [] (cues_if x)
     none_if true x = refl
     none_if false x = refl
 
@@ -155,7 +156,7 @@ unwatched m a b o was gone keeps waits opens knows = record {
     told n = ap cues_if (gone n) ∙ none_if (is_eq (message_cmp m n)) (get message_cmp a.cues n)
 
 -- where none told of it, these do
-pub watched_at : (m : MsgId) (cs : Vec Cue) (a b d : Agenda) → Watches m [] a b → KeepsEach m cs.items true b.watchers d.watchers → ((n : MsgId) → get message_cmp d.cues n ≡ cond (is_eq (message_cmp m n)) (Some cs) (get message_cmp b.cues n))
+pub watched_at : (m : MsgId) (cs : Vec Cue Global) (a b d : Agenda) → Watches m [] a b → KeepsEach m cs.items true b.watchers d.watchers → ((n : MsgId) → get message_cmp d.cues n ≡ cond (is_eq (message_cmp m n)) (Some cs) (get message_cmp b.cues n))
     → d.waiting ≡ b.waiting → d.open ≡ b.open → d.known ≡ b.known → Watches m cs.items a d
 watched_at m cs a b d f keeps put waits opens knows = record {
   told = λ n. told n ∙ ap (cond (is_eq (message_cmp m n)) cs.items) (f.told n) ∙ twice (is_eq (message_cmp m n)) (cues a n);
@@ -173,7 +174,7 @@ watched_at m cs a b d f keeps put waits opens knows = record {
     twice true x = refl
     twice false x = refl
 
-    some_if : (e : Bool) (x : Option (Vec Cue)) → cues_if (cond e (Some cs) x) ≡ cond e cs.items (cues_if x)
+    some_if : (e : Bool) (x : Option (Vec Cue Global)) → cues_if (cond e (Some cs) x) ≡ cond e cs.items (cues_if x)
     some_if true x = refl
     some_if false x = refl
 
@@ -206,13 +207,13 @@ placed w m a b d o cs is tell f puts watchers tells opens knows = record {
 }
   where
     same : (n : MsgId) → cues d n ≡ cues b n
-    same n = ap (λ (s : BTreeMap MsgId (Vec Cue)). cues_if (get message_cmp s n)) tells
+    same n = ap (λ (s : BTreeMap MsgId (Vec Cue Global)). cues_if (get message_cmp s n)) tells
 
 -- ---- several
 
 -- notes of views change nothing of messages
 told_by_views : (w : World) (r : PromId → VatNo → Bool) (b d : Agenda) → NotesViews w r b d → (m : MsgId) → cues d m ≡ cues b m
-told_by_views w r b d g m = ap (λ (s : BTreeMap MsgId (Vec Cue)). cues_if (get message_cmp s m)) g.tells
+told_by_views w r b d g m = ap (λ (s : BTreeMap MsgId (Vec Cue Global)). cues_if (get message_cmp s m)) g.tells
 
 pub watched_by_views : (w : World) (r : PromId → VatNo → Bool) (b d : Agenda) → NotesViews w r b d → Watched b → Watched d
 watched_by_views w r b d g h = λ c m. ap (λ (s : BTreeSet Watcher). is_watcher s c m) g.watchers ∙ h c m ∙ ap (λ l. is_cue l c) (sym (told_by_views w r b d g m))

@@ -5,6 +5,7 @@ use Rattle.std.specs.Ordering.{is_eq, ordering_then}
 use Rattle.std.specs.BTreeMap.{get}
 use Rattle.std.specs.BTreeSet.{BTreeSet, contains}
 use Rattle.std.specs.declared.cmp.Ordering.{Ordering}
+use Rattle.std.specs.declared.alloc.Global.{Global}
 use Rattle.std.specs.declared.vec.Vec.{Vec}
 use Rattle.ids.specs.Cells.{message_cmp, promise_cmp, vat_cmp}
 use Rattle.ids.specs.declared.names.VatNo.{VatNo}
@@ -45,7 +46,7 @@ abbrev pub way : Agenda → MsgId → Option Waits
 way a m = how a.waiting m
 
 -- the cells that tell how a message waits
-abbrev pub cues_if : Option (Vec Cue) → List Cue
+abbrev pub cues_if : Option (Vec Cue Global) → List Cue
 cues_if None = []
 cues_if (Some cues) = cues.items
 
