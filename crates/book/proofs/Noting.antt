@@ -80,10 +80,10 @@ noted_kept old new agenda is h = subst (Noted agenda) (sym is) h
 
 -- what an agenda with the notes of a book's world tells is told of the book
 module _ (b : Book) (w : World) (d : Desk) (agenda : Agenda) (same : w ≡ b.world) (out : out_of d ≡ b.out) (noted : NotedIn b.world agenda) where
-  pub first_told : {E : Type 0} (r : Result (Option Step) E) → (NotedIn w agenda → IfOk r (First w (out_at d))) → IfOk r (First b.world (λ v. has_vat v b.out))
-  first_told r tells =
-      subst (λ (lent : List Lent). IfOk r (First b.world (λ v. has_vat v lent))) out
-      (subst (λ (u : World). IfOk r (First u (out_at d))) same (tells (subst (λ (u : World). NotedIn u agenda) (sym same) noted)))
+  pub first_told : (o : Option Step) → (NotedIn w agenda → First w (out_at d) o) → First b.world (λ v. has_vat v b.out) o
+  first_told o tells =
+      subst (λ (lent : List Lent). First b.world (λ v. has_vat v lent) o) out
+      (subst (λ (u : World). First u (out_at d) o) same (tells (subst (λ (u : World). NotedIn u agenda) (sym same) noted)))
 
   pub all_told : {V E : Type 0} (items : V → List Step) (r : Result V E) → (NotedIn w agenda → IfOk r (λ x. Enabled w (out_at d) (items x))) → IfOk r (λ x. Enabled b.world (λ v. has_vat v b.out) (items x))
   all_told items r tells =

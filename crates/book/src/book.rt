@@ -565,9 +565,9 @@ impl Book {
         ensures counted { swaps_of self.new ≡ swaps_of self.old }
     {
         let agenda = self.agenda()?;
-        let step = agenda.first(self.alloc, self.core.world(), &self.desk);
+        let step = agenda.first(self.core.world(), &self.desk);
         self.agenda = Some(agenda);
-        step
+        Ok(step)
     }
 
     /// All that may be done, in that order. Fails only for want of memory.

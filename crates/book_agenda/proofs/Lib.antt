@@ -2,6 +2,7 @@ pub mod Orders
 pub mod Groups
 pub mod Fronts
 pub mod Noting
+pub mod Telling
 pub mod Noted
 pub mod Renewing
 pub mod Stepping

@@ -8,6 +8,8 @@ use Rattle.std.specs.Map.Iter.{deref_pair}
 use Rattle.std.specs.Option.{option_map}
 use Rattle.std.specs.Ordering.{is_eq}
 use Rattle.std.specs.BTreeMap.{BTreeMap, get}
+use Rattle.std.specs.declared.alloc.Global.{Global}
+use Rattle.std.specs.declared.vec.Vec.{Vec}
 use Rattle.std.proofs.lemmas.Cmp.{back_total, eq_by_cmp_equiv}
 use Rattle.std.proofs.lemmas.Map.Views.{list_any-from_Contains}
 use Rattle.ids.proofs.Keys.{equal, exact_vats, exact_promises}
@@ -27,13 +29,15 @@ use Rattle.world_cells.specs.World.{World, message, message_in, message_of, publ
 use Rattle.world_cells.specs.Listed.{messages_in}
 use Rattle.book_agenda.specs.Agendas.{is_open, open_view, can_learn}
 use Rattle.book_agenda.specs.Waiting.{how, Indexed}
-use Rattle.book_agenda.specs.Ways.{hangs_on, waits_of, waits_in}
-use Rattle.book_agenda.specs.AgendaView.{open_cmp, known_cmp, follower_cmp, has_open, is_among, is_in, has_follower, FollowsAll, NotedIn, PlacesAll, NotesViews}
+use Rattle.book_agenda.specs.Ways.{waits_of, waits_in, cues_of, cues_in}
+use Rattle.book_agenda.specs.AgendaView.{open_cmp, known_cmp, watcher_cmp, has_open, is_among, is_in, cues_if, cues, is_cue, Watched, NotedIn, Places, NotesViews}
+use Rattle.book_agenda.specs.declared.ways.Cue.{Cue}
 use Rattle.book_agenda.specs.declared.waiting.Waiting.{Waiting}
-use Rattle.book_agenda.specs.declared.agenda.Follower.{Follower}
+use Rattle.book_agenda.specs.declared.agenda.Watcher.{Watcher}
 use Rattle.book_agenda.specs.declared.agenda.Open.{Open}
 use Rattle.book_agenda.specs.declared.agenda.Known.{Known}
 use Rattle.book_agenda.specs.declared.agenda.Agenda.{Agenda}
+use Rattle.book_agenda.proofs.Noting.{watched_by_views}
 use Rattle.book_agenda.proofs.Orders.{turned, vat_total, message_total, promise_total}
 
 -- ---- listings
@@ -127,9 +131,9 @@ waiting_there : (w : World) (o : Option post.Message) → cond (is_some o) (wait
 waiting_there w None = refl
 waiting_there w (Some g) = refl
 
-following_there : (a : Agenda) (m : MsgId) (o : Option post.Message) → (is_some o ≡ true → FollowsAll a m (hangs_on o)) → FollowsAll a m (hangs_on o)
-following_there a m None h = λ n among. absurd (false≢true among)
-following_there a m (Some g) h = h refl
+cues_there : (w : World) (o : Option post.Message) → cond (is_some o) (cues_of w o) [] ≡ cues_of w o
+cues_there w None = refl
+cues_there w (Some g) = refl
 
 open_there : (o : Option heap.Content) → cond (is_some o) (is_open o) false ≡ is_open o
 open_there None = refl
@@ -139,15 +143,28 @@ learnt_there : (o : Option heap.Content) (b : Bool) → cond (is_some o) (is_ope
 learnt_there None b = refl
 learnt_there (Some x) b = refl
 
-pub noted_all : (w : World) (a b d : Agenda) → ((m : MsgId) → how a.waiting m ≡ None) → Indexed a.waiting → a.open.keys ≡ [] → a.known.keys ≡ []
-    → PlacesAll w (λ m. is_some (message_of w m)) a b → NotesViews w (λ p v. is_some (vat_state w v (view_cell p))) b d → NotedIn w d
-noted_all w a b d waiting indexed opens known f g = record {
+-- nothing is listed in an agenda that is new
+pub none_watched : (a : Agenda) → a.watchers.keys ≡ [] → ((m : MsgId) → cues a m ≡ []) → Watched a
+none_watched a watchers none c m =
+    let x : Watcher = record { cue = c; message = m } in
+    ap (list_any (λ k. is_eq (watcher_cmp x k))) watchers ∙ ap (λ cs. is_cue cs c) (sym (none m))
+
+pub none_told : (a : Agenda) → a.cues.entries ≡ [] → (m : MsgId) → cues a m ≡ []
+none_told a none m = ap (λ es. cues_if (lookup (λ k. is_eq (message_cmp m k)) es)) none
+
+pub noted_all : (w : World) (a b d : Agenda) → ((m : MsgId) → how a.waiting m ≡ None) → Indexed a.waiting → a.watchers.keys ≡ [] → a.cues.entries ≡ [] → a.open.keys ≡ [] → a.known.keys ≡ []
+    → Places w (λ m. is_some (message_of w m)) a b → NotesViews w (λ p v. is_some (vat_state w v (view_cell p))) b d → NotedIn w d
+noted_all w a b d waiting indexed watchers tells opens known f g = record {
   messages = λ m. ap (λ (q : Waiting). how q m) g.waits ∙ f.ways m ∙ ap (cond (is_some (message_of w m)) (waits_in w m)) (waiting m) ∙ waiting_there w (message_of w m);
-  follows = λ m. following_there d m (message_of w m) (λ h n among. ap (λ (s : BTreeSet Follower). contains follower_cmp s (record { before = n; message = m })) g.followers ∙ f.followed m h n among);
+  told = λ m. same_told b d g m ∙ f.told m ∙ ap (cond (is_some (message_of w m)) (cues_in w m)) (none_told a tells m) ∙ cues_there w (message_of w m);
+  watched = watched_by_views w (λ p v. is_some (vat_state w v (view_cell p))) b d g (f.watched (none_watched a watchers (none_told a tells)));
   indexed = subst Indexed (sym g.waits) (f.indexed indexed);
   views = λ p v. let o : Open = record { promise = p; vat = v } in g.views p v ∙ ap (cond (is_some (vat_state w v (view_cell p))) (open_view w p v)) (ap (λ (s : BTreeSet Open). contains open_cmp s o) f.opens ∙ ap (list_any (λ k. is_eq (open_cmp o k))) opens) ∙ open_there (vat_state w v (view_cell p));
   learns = λ v p. let k : Known = record { vat = v; promise = p } in g.learns v p ∙ ap (cond (is_some (vat_state w v (view_cell p))) (can_learn w v p)) (ap (λ (s : BTreeSet Known). contains known_cmp s k) f.knows ∙ ap (list_any (λ j. is_eq (known_cmp k j))) known) ∙ learnt_there (vat_state w v (view_cell p)) (is_some (published_as w p));
 }
+  where
+    same_told : (b d : Agenda) → NotesViews w (λ p v. is_some (vat_state w v (view_cell p))) b d → (m : MsgId) → cues d m ≡ cues b m
+    same_told b d g m = ap (λ (s : BTreeMap MsgId (Vec Cue Global)). cues_if (get message_cmp s m)) g.tells
 
 -- ---- what is read of a vat's view
 

@@ -1,4 +1,4 @@
--- Parts of the sets of an agenda: the vats that wait for a promise, the messages that follow one, the first that is ready at a vat, and the promises
+-- Parts of the sets of an agenda: the vats that wait for a promise, the messages of which a cell tells how they wait, the first that is ready at a vat, and the promises
 -- of an event and a number.
 use Rattle.std.proofs.Common.{◌≡◌, ℕ, ◌<◌, nat_eq, arith, Bool, true, false, ◌&&◌, List, [], ◌∷◌, ◌++◌, Some, None, refl, sym, ap, ap₂, ◌∙◌}
 use Rattle.std.specs.Ordering.{is_eq, is_gt, nat_cmp, ordering_then, ordering_reverse, MatchOrdering}
@@ -11,8 +11,8 @@ use Rattle.std.proofs.lemmas.Map.Lookups.{exact_unsigned}
 use Rattle.std.proofs.lemmas.Cmp.{nat_cmp_total, ranked, tied_itself}
 use Rattle.std.proofs.lemmas.List.{append-nil}
 use Rattle.ids.proofs.Keys.{equal_self, exact_vats}
-use Rattle.ids.proofs.CellKeys.{promises_agree, messages_agree}
-use Rattle.ids.specs.KeyLaws.{exact_vat, same_two}
+use Rattle.ids.proofs.CellKeys.{promises_agree}
+use Rattle.ids.specs.KeyLaws.{exact_vat}
 use Rattle.ids.specs.Cells.{message_cmp, promise_cmp, vat_cmp}
 use Rattle.ids.specs.declared.names.EventName.{EventName}
 use Rattle.ids.specs.declared.names.VatNo.{VatNo}
@@ -21,13 +21,15 @@ use Rattle.ids.specs.declared.names.PromId.{PromId}
 use Rattle.heap.specs.View.{same_promise}
 use Rattle.book_agenda.specs.Agendas.{KnownAs}
 use Rattle.book_agenda.specs.Waiting.{ready_cmp, FirstAt}
-use Rattle.book_agenda.specs.AgendaView.{open_cmp, known_cmp, follower_cmp, is_among, is_in}
+use Rattle.book_agenda.specs.Ways.{cue_cmp}
+use Rattle.book_agenda.specs.AgendaView.{open_cmp, known_cmp, watcher_cmp, is_among, is_in, is_watcher}
+use Rattle.book_agenda.specs.declared.ways.Cue.{Cue}
 use Rattle.book_agenda.specs.declared.waiting.Ready.{Ready}
 use Rattle.book_agenda.specs.declared.waiting.Waiting.{Waiting}
-use Rattle.book_agenda.specs.declared.agenda.Follower.{Follower}
+use Rattle.book_agenda.specs.declared.agenda.Watcher.{Watcher}
 use Rattle.book_agenda.specs.declared.agenda.Open.{Open}
 use Rattle.book_agenda.specs.declared.agenda.Known.{Known}
-use Rattle.book_agenda.proofs.Orders.{vat_total, message_total, promise_total}
+use Rattle.book_agenda.proofs.Orders.{vat_total, message_total, promise_total, cue_total, same_cue, cues_agree}
 use Rattle.book_agenda.proofs.Groups.{members_at, at_other, members_of, none_first, one_first, other_first}
 
 -- ---- numbers at most and at least another one
@@ -49,7 +51,7 @@ squeezed m n x y h g = by (nat_cmp m n) refl h (ap (λ o. is_gt (ordering_then o
     by Equal e h g = (exact_unsigned m n e, h, g)
     by Greater e h g = absurd (false≢true (sym h))
 
--- ---- the vats that wait for a promise, and the messages that follow one
+-- ---- the vats that wait for a promise, and the messages of which a cell tells how they wait
 
 abbrev pub no_vat : VatNo
 no_vat = record { 0 = record { 0 = 0 } }
@@ -84,25 +86,21 @@ pub vats_waiting : (p : PromId) (s : BTreeSet Open) → IsOrdered open_cmp s →
 vats_waiting p s ordered v =
     members_of (λ (o : Open). o.promise) (λ (o : Open). o.vat) promise_cmp vat_cmp same_promise no_vat promise_total vat_total no_vat_first promises_agree (first_open p) p (λ t. refl) s ordered v
 
-abbrev pub first_follower : MsgId → Follower
-first_follower n = record { before = n; message = no_message }
+abbrev pub first_watcher : Cue → Watcher
+first_watcher c = record { cue = c; message = no_message }
 
-abbrev pub followers_from : MsgId → BTreeSet Follower → List Follower
-followers_from n s = keys_between follower_cmp (Included (first_follower n)) Unbounded s
+abbrev pub watchers_from : Cue → BTreeSet Watcher → List Watcher
+watchers_from c s = keys_between watcher_cmp (Included (first_watcher c)) Unbounded s
 
--- two messages are the same by name
-abbrev pub same_message : MsgId → MsgId → Bool
-same_message m n = same_two m.event.0 n.event.0 m.index n.index
+abbrev pub messages_at : Cue → List Watcher → List MsgId
+messages_at c xs = members_at (λ (x : Watcher). x.cue) (λ (x : Watcher). x.message) cue_cmp message_cmp same_cue no_message c xs
 
-abbrev pub messages_at : MsgId → List Follower → List MsgId
-messages_at n fs = members_at (λ (f : Follower). f.before) (λ (f : Follower). f.message) message_cmp message_cmp same_message no_message n fs
+pub at_other_cue : (c : Cue) (x : Watcher) (xs : List Watcher) → same_cue x.cue c ≡ false → messages_at c (x ∷ xs) ≡ []
+at_other_cue c x xs h = at_other (λ (y : Watcher). y.cue) (λ (y : Watcher). y.message) cue_cmp message_cmp same_cue no_message c x xs h
 
-pub at_other_message : (n : MsgId) (f : Follower) (fs : List Follower) → same_message f.before n ≡ false → messages_at n (f ∷ fs) ≡ []
-at_other_message n f fs h = at_other (λ (x : Follower). x.before) (λ (x : Follower). x.message) message_cmp message_cmp same_message no_message n f fs h
-
-pub messages_following : (n : MsgId) (s : BTreeSet Follower) → IsOrdered follower_cmp s → (m : MsgId) → is_in (messages_at n (followers_from n s)) m ≡ contains follower_cmp s (record { before = n; message = m })
-messages_following n s ordered m =
-    members_of (λ (f : Follower). f.before) (λ (f : Follower). f.message) message_cmp message_cmp same_message no_message message_total message_total no_message_first messages_agree (first_follower n) n (λ t. refl) s ordered m
+pub messages_watching : (c : Cue) (s : BTreeSet Watcher) → IsOrdered watcher_cmp s → (m : MsgId) → is_in (messages_at c (watchers_from c s)) m ≡ is_watcher s c m
+messages_watching c s ordered m =
+    members_of (λ (x : Watcher). x.cue) (λ (x : Watcher). x.message) cue_cmp message_cmp same_cue no_message cue_total message_total no_message_first cues_agree (first_watcher c) c (λ t. refl) s ordered m
 
 -- ---- the first message that is ready at a vat
 

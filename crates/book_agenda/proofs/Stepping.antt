@@ -1,5 +1,5 @@
 -- What the program finds a message, or a vat, to do is what may be done.
-use Rattle.std.proofs.Common.{◌≡◌, ℕ, ◌+◌, ◌<◌, Bool, true, false, cond, List, [], length, drop, get_or, Option, Some, None, is_some, is_none, refl, sym, ap, subst, ◌∙◌}
+use Rattle.std.proofs.Common.{◌≡◌, ℕ, ◌+◌, ◌<◌, Bool, true, false, cond, List, [], length, drop, get_or, ◌++◌, map, Option, Some, None, is_some, is_none, refl, sym, ap, ap₂, subst, ◌∙◌}
 use Rattle.std.specs.Option.{option_map}
 use Rattle.std.proofs.lemmas.Bool.{and_parts, and_from, false≢true}
 use Rattle.std.proofs.lemmas.Option.{none-some, same_Some}
@@ -23,11 +23,12 @@ use Rattle.event.specs.Walks.{by_the_board, is_there, ends_there, may_end, deliv
 use Rattle.event.specs.declared.ready.Unready.{Unready}
 use Rattle.event.specs.declared.ready.Unready.TheVariants as why
 use Rattle.book_agenda.specs.Agendas.{is_open, open_view, can_learn}
-use Rattle.book_agenda.specs.Ways.{stays, waits_here, waits_at, waits_of, waits_in}
+use Rattle.book_agenda.specs.Ways.{behind, cues_here, stays, viewed, waits_here, waits_at, waits_of, waits_in}
+use Rattle.book_agenda.specs.declared.ways.Cue.TheVariants as cue
 use Rattle.book_agenda.specs.declared.waiting.Waits.{Waits}
 use Rattle.book_agenda.specs.declared.waiting.Waits.TheVariants as waits
 use Rattle.book_agenda.specs.Enabled.{Out, MayDo, may_arrive, may_forward, may_turn, may_learn, message_in}
-use Rattle.book_agenda.specs.Found.{step_in, step_of, step_by, message_step, learn_step}
+use Rattle.book_agenda.specs.Found.{step_in, step_of, moves_in, moves, step_by, message_step, learn_step}
 use Rattle.book_agenda.specs.declared.agenda.Known.{Known}
 use Rattle.book_agenda.specs.declared.agenda.Step.{Step}
 use Rattle.book_agenda.specs.declared.agenda.Step.TheVariants as step
@@ -157,57 +158,26 @@ module _ (w : World) (out : Out) where
 
   -- ---- what a message does that waits so
 
-  -- a delivery that is made in its vat whatever is published or learnt goes nowhere else, and looks nothing up
-  abbrev Settled : VatNo → Delivery → Type 0
-  Settled v d = (delivery_onward w v d ≡ None) × (may_end v d (delivery_walk w v d).end ≡ true) × (looked_up w d ≡ [])
-
-  no_promise : (v : VatNo) (u : Val) → is_there v u ≡ true → promise_of u ≡ None
-  no_promise v (promise p) h = absurd (false≢true h)
-  no_promise v (object i) h = refl
-  no_promise v (ejector j) h = refl
-  no_promise v u h = refl
-
-  settled : (v : VatNo) (d : Delivery) → stays v d ≡ true → Settled v d
-  settled v (sent c) h =
-      let ends : board_walk w c.target ≡ ended c.target = walk-value most_walked (by_the_board w) [] c.target (no_promise v c.target h) in (
-        ap (going_on v) ends ∙ ap (λ (o : Option VatNo). option_map (λ u. (u, (ended c.target).through)) o) (stays_there v (Some c.target) h),
-        ap (λ (k : Walk). ends_there v k.end) ends ∙ h,
-        ap (λ (k : Walk). k.through) ends,
-      )
-  settled v (opening e p) h = (refl, refl, refl)
-  settled v (asked p) h = (refl, refl, refl)
-  settled v (waiting b) h = absurd (false≢true h)
-
-  none_early : (o : Option MsgId) → is_none (early_by o) ≡ is_none o
-  none_early None = refl
-  none_early (Some m) = refl
-
-  -- what such a message can do at its vat
-  settled_step : (m : MsgId) (g : Message) (v : VatNo) → stays v g.delivery ≡ true → step_in w out m g (at_vat v) ≡ cond (out v) None (cond (is_none (first_undone w g.after)) (Some (step.Turn m)) None)
-  settled_step m g v h =
-      let s = settled v g.delivery h in
-      ap (λ (o : Option (VatNo × List PromId)). cond (is_some o) (Some (step.Forward m)) (cond (out v) None (cond (is_none (unready_at w v g)) (Some (step.Turn m)) None))) s.0
-      ∙ ap (λ b. cond (out v) None (cond b (Some (step.Turn m)) None))
-      (ap (λ b. is_none (cond b (early_by (first_undone w (awaited w g))) (Some why.NotReady))) s.1
-      ∙ none_early (first_undone w (awaited w g)) ∙ ap (λ ps. is_none (first_undone w (awaited_along w g.after ps))) s.2)
-
-  step_here : (m : MsgId) (g : Message) (v : VatNo) → message_of w m ≡ Some g → g.place ≡ at_vat v → (b : Bool) → stays v g.delivery ≡ b → (c : Bool) → is_none (first_undone w g.after) ≡ c
-      → step_by w out m (cond b (cond c (waits.Ready v) waits.Behind) waits.Moving) ≡ message_step w out m
-  step_here m g v there at false e c f = refl
-  step_here m g v there at true e true f = sym (at_place m g (at_vat v) there at ∙ settled_step m g v e ∙ ap (λ b. cond (out v) None (cond b (Some (step.Turn m)) None)) f)
-  step_here m g v there at true e false f = sym (at_place m g (at_vat v) there at ∙ settled_step m g v e ∙ ap (λ b. cond (out v) None (cond b (Some (step.Turn m)) None)) f ∙ never (out v))
+  step_here : (m : MsgId) (g : Message) (v : VatNo) → message_of w m ≡ Some g → g.place ≡ at_vat v → (b : Bool) → is_some (onward_of w v g) ≡ b → (c : Bool) → is_none (unready_at w v g) ≡ c
+      → step_by w out m (cond b waits.Moving (cond c (waits.Ready v) waits.Behind)) ≡ message_step w out m
+  step_here m g v there at b goes c ready = by b c ∙ sym (at_place m g (at_vat v) there at ∙ ap₂ (λ x y. cond x (Some (step.Forward m)) (cond (out v) None (cond y (Some (step.Turn m)) None))) goes ready)
     where
-      never : (b : Bool) → ◌≡◌ {A = Option Step} (cond b None None) None
+      never : (o : Bool) → ◌≡◌ {A = Option Step} None (cond o None None)
       never true = refl
       never false = refl
+
+      by : (x y : Bool) → step_by w out m (cond x waits.Moving (cond y (waits.Ready v) waits.Behind)) ≡ cond x (Some (step.Forward m)) (cond (out v) None (cond y (Some (step.Turn m)) None))
+      by true y = ap (moves m) there ∙ ap (moves_in m) at
+      by false true = refl
+      by false false = never (out v)
 
   -- THE LEMMA: it is what the message can do
   pub step_right : (m : MsgId) (x : Waits) → waits_in w m ≡ Some x → step_by w out m x ≡ message_step w out m
   step_right m x h = by (message_of w m) refl h
     where
       at : (g : Message) → message_of w m ≡ Some g → (y : Place) → g.place ≡ y → waits_at w g y ≡ Some x → step_by w out m x ≡ message_step w out m
-      at g there (flying v) e k = ap (step_by w out m) (sym (same_Some waits.Moving x k))
-      at g there (at_vat v) e k = ap (step_by w out m) (sym (same_Some (waits_here w v g) x k)) ∙ step_here m g v there e (stays v g.delivery) refl (is_none (first_undone w g.after)) refl
+      at g there (flying v) e k = ap (step_by w out m) (sym (same_Some waits.Moving x k)) ∙ ap (moves m) there ∙ ap (moves_in m) e ∙ sym (at_place m g (flying v) there e)
+      at g there (at_vat v) e k = ap (step_by w out m) (sym (same_Some (waits_here w v g) x k)) ∙ step_here m g v there e (is_some (onward_of w v g)) refl (is_none (unready_at w v g)) refl
       at g there (done f) e k = absurd (none-some x k)
 
       by : (o : Option Message) → message_of w m ≡ o → waits_of w o ≡ Some x → step_by w out m x ≡ message_step w out m
@@ -226,6 +196,50 @@ module _ (w : World) (out : Out) where
       by : (o : Option Message) → message_of w m ≡ o → step_of w out m o ≡ Some s → (x : Waits) × (waits_of w o ≡ Some x)
       by None there k = absurd (none-some s k)
       by (Some g) there k = at g there g.place refl k
+
+-- ---- a delivery that is made in its vat whatever is published or learnt
+
+module _ (w : World) where
+  -- it goes nowhere else, and looks nothing up
+  abbrev Settled : VatNo → Delivery → Type 0
+  Settled v d = (delivery_onward w v d ≡ None) × (may_end v d (delivery_walk w v d).end ≡ true) × (looked_up w d ≡ []) × (viewed w v d ≡ [])
+
+  no_promise : (v : VatNo) (u : Val) → is_there v u ≡ true → promise_of u ≡ None
+  no_promise v (promise p) h = absurd (false≢true h)
+  no_promise v (object i) h = refl
+  no_promise v (ejector j) h = refl
+  no_promise v u h = refl
+
+  settled : (v : VatNo) (d : Delivery) → stays v d ≡ true → Settled v d
+  settled v (sent c) h =
+      let ends : board_walk w c.target ≡ ended c.target = walk-value most_walked (by_the_board w) [] c.target (no_promise v c.target h) in (
+        ap (going_on v) ends ∙ ap (λ (o : Option VatNo). option_map (λ u. (u, (ended c.target).through)) o) (stays_there v (Some c.target) h),
+        ap (λ (k : Walk). ends_there v k.end) ends ∙ h,
+        ap (λ (k : Walk). k.through) ends,
+        refl,
+      )
+  settled v (opening e p) h = (refl, refl, refl, refl)
+  settled v (asked p) h = (refl, refl, refl, refl)
+  settled v (waiting b) h = absurd (false≢true h)
+
+  none_early : (o : Option MsgId) → is_none (early_by o) ≡ is_none o
+  none_early None = refl
+  none_early (Some m) = refl
+
+  -- so it is ready once the messages are done that it comes after
+  pub settled_way : (v : VatNo) (g : Message) → stays v g.delivery ≡ true → waits_here w v g ≡ behind w v g.after
+  settled_way v g h =
+      let s = settled v g.delivery h in
+      ap (λ (o : Option (VatNo × List PromId)). cond (is_some o) waits.Moving (cond (is_none (unready_at w v g)) (waits.Ready v) waits.Behind)) s.0
+      ∙ ap (λ b. cond b (waits.Ready v) waits.Behind)
+      (ap (λ b. is_none (cond b (early_by (first_undone w (awaited w g))) (Some why.NotReady))) s.1
+      ∙ none_early (first_undone w (awaited w g)) ∙ ap (λ ps. is_none (first_undone w (awaited_along w g.after ps))) s.2)
+
+  -- and their cells tell it
+  pub settled_cues : (v : VatNo) (g : Message) → stays v g.delivery ≡ true → cues_here w v g ≡ map cue.Message g.after
+  settled_cues v g h =
+      let s = settled v g.delivery h in
+      ap₂ (λ ps qs. map cue.Board ps ++ (map (λ p. cue.View v p) qs ++ map cue.Message (awaited_along w g.after ps))) s.2 s.3
 
 -- ---- learning
 

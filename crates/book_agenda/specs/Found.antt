@@ -16,6 +16,16 @@ use Rattle.book_agenda.specs.declared.agenda.Agenda.{Agenda}
 use Rattle.book_agenda.specs.declared.agenda.Step.{Step}
 use Rattle.book_agenda.specs.declared.agenda.Step.TheVariants as step
 
+-- what a message does that moves: it arrives, or goes on
+abbrev pub moves_in : MsgId → Place → Option Step
+moves_in m (flying v) = Some (step.Arrive m)
+moves_in m (at_vat v) = Some (step.Forward m)
+moves_in m (done e) = None
+
+abbrev pub moves : MsgId → Option Message → Option Step
+moves m None = None
+moves m (Some g) = moves_in m g.place
+
 module _ (w : World) (out : Out) where
   -- a message at a vat goes on if it can, and has its turn if it is ready and no ticket of the vat is out
   abbrev pub step_at : MsgId → Message → VatNo → Option Step
@@ -34,9 +44,9 @@ module _ (w : World) (out : Out) where
   abbrev pub message_step : MsgId → Option Step
   message_step m = step_of m (message_of w m)
 
-  -- the same of one that waits so
+  -- what a message does that waits so
   abbrev pub step_by : MsgId → Waits → Option Step
-  step_by m waits.Moving = message_step m
+  step_by m waits.Moving = moves m (message_of w m)
   step_by m (waits.Ready v) = cond (out v) None (Some (step.Turn m))
   step_by m waits.Behind = None
 

@@ -1,5 +1,5 @@
 // What may be done next.
-ghost use Rattle.std.specs.Prelude.{◌≡◌, ◌++◌, ◌&&◌, cond, nat_eq, Some, is_none, is_some, IfOk, OnOk};
+ghost use Rattle.std.specs.Prelude.{◌≡◌, ◌++◌, ◌&&◌, cond, nat_eq, [], Some, is_some, IfOk, OnOk};
 ghost use Rattle.std.specs.Option.{option_to_list};
 ghost use Rattle.std.specs.Ordering.{is_eq};
 ghost use Rattle.std.specs.BTreeMap.{IsOrdered as IsOrderedMap};
@@ -9,32 +9,22 @@ ghost use Rattle.ids.specs.declared.names.VatNo.{VatNo};
 ghost use Rattle.ids.specs.declared.names.MsgId.{MsgId};
 ghost use Rattle.heap.specs.State.{viewed, view_cell};
 ghost use Rattle.heap.specs.View.{state_of, view_of};
-ghost use Rattle.post.specs.MessageView.{message_of};
 ghost use Rattle.world_cells.specs.View.{world_of};
 ghost use Rattle.world_cells.specs.World.{World as Cells, message_of as message_in_world, vat_state};
-ghost use Rattle.values.specs.View.{val_of};
-ghost use Rattle.post.specs.DeliveryView.{delivery_of};
-ghost use Rattle.post.specs.Messages.{done_in};
-ghost use Rattle.event.specs.Walks.{is_there as is_there_of};
-ghost use Rattle.event.specs.Ready.{first_undone, unready_at};
 ghost use Rattle.book_agenda.specs.Agendas.{AlikeBut, KnownAs, is_open as is_open_of, open_view, can_learn as can_learn_of};
-ghost use Rattle.book_agenda.specs.Ways.{only_turns, stays as stays_of, waits_here, waits_in};
 ghost use Rattle.book_agenda.specs.Enabled.{Enabled, First};
-ghost use Rattle.book_agenda.specs.AgendaView.{out_at};
-ghost use Rattle.book_agenda.specs.Found.{step_at as step_at_vat, message_step as message_step_of, step_by as step_by_way, learn_step};
+ghost use Rattle.book_agenda.specs.AgendaView.{out_at, KeepsEach};
+ghost use Rattle.book_agenda.specs.Found.{moves as moves_of, step_by as step_by_way, learn_step};
 
 use crate::waiting::{Waiting, Waits};
+use crate::ways::{Cue, Way, way_of};
 use desk::desk::Desk;
-use event::forwarding::onward;
-use event::ready::{Delay, check_ready};
 use heap::state::{VatState, View};
 use ids::cells::CellKey;
 use ids::names::{EventName, MsgId, PromId, VatNo};
-use post::delivery::Delivery;
-use post::message::{Message, Place};
+use post::message::Place;
 use std::alloc::{AllocError, Global};
-use std::collections::BTreeSet;
-use values::value::Value;
+use std::collections::{BTreeMap, BTreeSet};
 use world_cells::world::World;
 
 /// Something that may be done.
@@ -64,10 +54,10 @@ struct Known {
     promise: PromId,
 }
 
-/// A message that can do nothing but have its turn where it is, and one that it comes after.
+/// A message at a vat, and a cell that tells how it waits there.
 #[derive(Clone, Copy, PartialEq, Eq, PartialOrd, Ord)]
-struct Follower {
-    before: MsgId,
+struct Watcher {
+    cue: Cue,
     message: MsgId,
 }
 
@@ -76,14 +66,16 @@ struct Follower {
 #[derive(Drop)]
 pub struct Agenda {
     waiting: Waiting,
-    /// By the message that they come after: how such a one waits is looked at again when that one changes.
-    followers: BTreeSet<Follower>,
+    /// By the cells that tell how they wait: when one of these changes, it is looked at again.
+    watchers: BTreeSet<Watcher>,
+    /// The cells that tell of each how it waits, if there are any.
+    cues: BTreeMap<MsgId, Vec<Cue>>,
     open: BTreeSet<Open>,
     known: BTreeSet<Known>,
 }
 
 impl Agenda {
-    ghost use Rattle.book_agenda.specs.AgendaView.{open_cmp, known_cmp, has_follower, has_open, has_known, is_among, is_in, same_view, NotedIn, Follows, FollowsEach, Renews, Places, PlacesAll, NotesMessage, NotesViews, NotesCell};
+    ghost use Rattle.book_agenda.specs.AgendaView.{open_cmp, known_cmp, has_open, has_known, is_among, is_in, same_view, watches, NotedIn, Watches, Places, NotesViews, NotesCell};
     ghost use Rattle.book_agenda.specs.Found.{front_step, front_steps, message_steps, learn_steps, first_in};
 
     /// What is not done in this world. Fails only for want of memory.
@@ -92,7 +84,8 @@ impl Agenda {
     {
         let mut agenda = Agenda {
             waiting: Waiting::new(alloc),
-            followers: BTreeSet::new(alloc),
+            watchers: BTreeSet::new(alloc),
+            cues: BTreeMap::new(alloc),
             open: BTreeSet::new(alloc),
             known: BTreeSet::new(alloc),
         };
@@ -116,14 +109,23 @@ impl Agenda {
         Ok(())
     }
 
-    /// Notes what a cell holds.
+    /// Notes what a cell holds, and anew how those wait that it tells of.
     fn note_cell(&mut self, alloc: Global, world: &World, key: &CellKey) -> Result<(), AllocError>
         ensures { OnOk result (NotesCell (world_of world.now) key.now self.old self.new) }
     {
         match key {
-            CellKey::Msg(name) => self.note_message(alloc, world, *name),
-            CellKey::View(vat, promise) => self.note_view(world, *vat, *promise),
-            CellKey::Board(promise) => self.note_publication(alloc, world, *promise),
+            CellKey::Msg(name) => {
+                self.wake(alloc, world, Cue::Message(*name))?;
+                self.place(alloc, world, *name)
+            }
+            CellKey::View(vat, promise) => {
+                self.wake(alloc, world, Cue::View(*vat, *promise))?;
+                self.note_view(world, *vat, *promise)
+            }
+            CellKey::Board(promise) => {
+                self.wake(alloc, world, Cue::Board(*promise))?;
+                self.note_publication(alloc, world, *promise)
+            }
             CellKey::Name(_)
             | CellKey::Slot(_)
             | CellKey::Object(_)
@@ -134,84 +136,74 @@ impl Agenda {
 
     /// Notes of all messages how they wait.
     fn note_messages(&mut self, alloc: Global, world: &World) -> Result<(), AllocError>
-        ensures { OnOk result (PlacesAll (world_of world.now) (λ m. is_some (message_in_world (world_of world.now) m)) self.old self.new) }
+        ensures { OnOk result (Places (world_of world.now) (λ m. is_some (message_in_world (world_of world.now) m)) self.old self.new) }
     {
         let messages = world.messages(alloc)?;
         for (name, _) in messages.iter() {
-            self.place(world, *name)?;
+            self.place(alloc, world, *name)?;
         }
         Ok(())
     }
 
-    /// Notes how a message waits, and anew how those wait that come after it.
-    fn note_message(&mut self, alloc: Global, world: &World, name: MsgId) -> Result<(), AllocError>
-        ensures { OnOk result (NotesMessage (world_of world.now) name self.old self.new) }
+    /// Notes anew how those messages wait of which a cell tells it.
+    fn wake(&mut self, alloc: Global, world: &World, cue: Cue) -> Result<(), AllocError>
+        ensures { OnOk result (Places (world_of world.now) (λ m. watches self.old cue m) self.old self.new) }
     {
-        self.place(world, name)?;
-        for follower in self.followers_of(alloc, name)? {
-            self.renew(world, follower)?;
+        for watcher in self.watchers_of(alloc, cue)? {
+            self.place(alloc, world, watcher)?;
         }
         Ok(())
     }
 
-    /// Notes how a message waits, and after which ones it comes.
-    fn place(&mut self, world: &World, name: MsgId) -> Result<(), AllocError>
-        ensures { OnOk result (Places (world_of world.now) name self.old self.new) }
+    /// Notes how a message waits, and which cells tell it.
+    fn place(&mut self, alloc: Global, world: &World, name: MsgId) -> Result<(), AllocError>
+        ensures { OnOk result (Places (world_of world.now) (λ m. is_eq (message_cmp name m)) self.old self.new) }
     {
-        self.follow(world, name)?;
-        self.renew(world, name)
+        let Way { waits, cues } = way_of(alloc, world, name)?;
+        self.watch(name, cues)?;
+        self.waiting.put(name, waits)
     }
 
-    /// Notes how a message waits.
-    fn renew(&mut self, world: &World, name: MsgId) -> Result<(), AllocError>
-        ensures { OnOk result (Renews (world_of world.now) (λ m. is_eq (message_cmp name m)) self.old self.new) }
+    /// Notes that these cells tell how a message waits, and no others.
+    fn watch(&mut self, name: MsgId, cues: Vec<Cue>) -> Result<(), AllocError>
+        ensures { OnOk result (Watches name cues.items self.old self.new) }
     {
-        self.waiting.put(name, waits(world, name))
+        self.unwatch(name)?;
+        if cues.is_empty() {
+            return Ok(());
+        }
+        keep_each(&mut self.watchers, name, cues.as_slice(), true)?;
+        self.cues.insert(name, cues)?;
+        Ok(())
     }
 
-    /// Notes after which ones a message comes that hangs on nothing else.
-    fn follow(&mut self, world: &World, name: MsgId) -> Result<(), AllocError>
-        ensures { OnOk result (Follows (world_of world.now) name self.old self.new) }
+    /// Notes that no cell tells how a message waits.
+    fn unwatch(&mut self, name: MsgId) -> Result<(), AllocError>
+        ensures { OnOk result (Watches name [] self.old self.new) }
     {
-        match world.message(name) {
-            Some(message) => {
-                self.follow_each(name, message.sent.after.names(), has_only_a_turn(message))
-            }
+        match self.cues.remove(&name) {
+            Some(cues) => keep_each(&mut self.watchers, name, cues.as_slice(), false),
             None => Ok(()),
         }
     }
 
-    /// Notes of a message whether it follows each of these.
-    fn follow_each(&mut self, name: MsgId, names: &[MsgId], follows: bool) -> Result<(), AllocError>
-        ensures { OnOk result (FollowsEach name names.now follows self.old self.new) }
-    {
-        for before in names {
-            let follower = Follower {
-                before: *before,
-                message: name,
-            };
-            keep(&mut self.followers, follower, follows)?;
-        }
-        Ok(())
-    }
-
-    /// Those that follow a message.
-    fn followers_of(&self, alloc: Global, before: MsgId) -> Result<Vec<MsgId>, AllocError>
-        ensures { IfOk result (λ names. (m : MsgId) → is_in names.items m ≡ has_follower self.now before m) }
+    /// The messages of which a cell tells how they wait.
+    fn watchers_of(&self, alloc: Global, cue: Cue) -> Result<Vec<MsgId>, AllocError>
+        ensures { IfOk result (λ names. (m : MsgId) → is_in names.items m ≡ watches self.now cue m) }
     {
         let mut names = Vec::new(alloc);
-        let first = Follower {
-            before,
+        let first = Watcher {
+            cue,
             message: MsgId {
                 event: EventName(0),
                 index: 0,
             },
         };
-        for follower in self.followers.range(first..) {
-            if follower.before != before {
+        for watcher in self.watchers.range(first..) {
+            if watcher.cue != cue {
                 return Ok(names);
             }
-            names.push(follower.message)?;
+            names.push(watcher.message)?;
         }
         Ok(names)
     }
@@ -304,52 +296,36 @@ impl Agenda {
     }
 
     /// The first that may be done: what a message can do, in order of their names, then what vats can learn, in order of birth and of
-    /// promise. Turns and learning of vats that are out are left out. Fails only for want of memory.
-    pub fn first(
-        &self,
-        alloc: Global,
-        world: &World,
-        desk: &Desk,
-    ) -> Result<Option<Step>, AllocError>
-        ensures { NotedIn (world_of world.now) self.now → IfOk result (First (world_of world.now) (out_at desk.now)) }
+    /// promise. Turns and learning of vats that are out are left out.
+    pub fn first(&self, world: &World, desk: &Desk) -> Option<Step>
+        ensures { NotedIn (world_of world.now) self.now → First (world_of world.now) (out_at desk.now) result }
     {
-        match self.first_of_messages(alloc, world, desk)? {
-            Some(step) => Ok(Some(step)),
-            None => Ok(self.first_learning(desk)),
+        match self.first_of_messages(world, desk) {
+            Some(step) => Some(step),
+            None => self.first_learning(desk),
         }
     }
 
-    /// The first that a message can do: at each vat only the first is looked at of those that are ready there.
-    fn first_of_messages(
-        &self,
-        alloc: Global,
-        world: &World,
-        desk: &Desk,
-    ) -> Result<Option<Step>, AllocError>
-        ensures first { IfOk result (λ step. step ≡ first_in (front_steps (world_of world.now) (out_at desk.now) self.now)) }
+    /// The first that a message can do. Only those are looked at that move, and at each vat the first of those that are ready there.
+    fn first_of_messages(&self, world: &World, desk: &Desk) -> Option<Step>
+        ensures first { result ≡ first_in (front_steps (world_of world.now) (out_at desk.now) self.now) }
         ensures ordered { IsOrdered message_cmp self.now.waiting.fronts }
     {
         for name in self.waiting.fronts.iter() {
-            if let Some(step) = self.front_step(alloc, world, *name, desk)? {
-                return Ok(Some(step));
+            if let Some(step) = self.front_step(world, *name, desk) {
+                return Some(step);
             }
         }
-        Ok(None)
+        None
     }
 
     /// What a message at the front can do.
-    fn front_step(
-        &self,
-        alloc: Global,
-        world: &World,
-        name: MsgId,
-        desk: &Desk,
-    ) -> Result<Option<Step>, AllocError>
-        ensures { IfOk result (λ step. step ≡ front_step (world_of world.now) (out_at desk.now) self.now name) }
+    fn front_step(&self, world: &World, name: MsgId, desk: &Desk) -> Option<Step>
+        ensures { result ≡ front_step (world_of world.now) (out_at desk.now) self.now name }
     {
         match self.waiting.get(name) {
-            Some(waits) => step_by(alloc, world, name, waits, desk),
-            None => Ok(None),
+            Some(waits) => step_by(world, name, waits, desk),
+            None => None,
         }
     }
 
@@ -371,7 +347,7 @@ impl Agenda {
         ensures { NotedIn (world_of world.now) self.now → IfOk result (λ steps. Enabled (world_of world.now) (out_at desk.now) steps.items) }
     {
         let mut steps = Vec::new(alloc);
-        self.add_messages(alloc, world, desk, &mut steps)?;
+        self.add_messages(world, desk, &mut steps)?;
         self.add_learning(desk, &mut steps)?;
         Ok(steps)
     }
@@ -379,7 +355,6 @@ impl Agenda {
     /// Adds what messages can do.
     fn add_messages(
         &self,
-        alloc: Global,
         world: &World,
         desk: &Desk,
         steps: &mut Vec<Step>,
@@ -388,7 +363,7 @@ impl Agenda {
         ensures ordered { IsOrderedMap message_cmp self.now.waiting.all }
     {
         for (name, waits) in self.waiting.all.iter() {
-            add_step(step_by(alloc, world, *name, *waits, desk)?, steps)?;
+            add_step(step_by(world, *name, *waits, desk), steps)?;
         }
         Ok(())
     }
@@ -405,6 +380,22 @@ impl Agenda {
     }
 }
 
+/// Notes of a message whether these cells tell how it waits.
+fn keep_each(
+    watchers: &mut BTreeSet<Watcher>,
+    message: MsgId,
+    cues: &[Cue],
+    stays: bool,
+) -> Result<(), AllocError>
+    ensures { OnOk result (KeepsEach message cues.now stays watchers.old watchers.new) }
+{
+    for cue in cues {
+        let watcher = Watcher { cue: *cue, message };
+        keep(watchers, watcher, stays)?;
+    }
+    Ok(())
+}
+
 /// Puts an item into a set or takes it out.
 fn keep<T: Ord + Drop>(set: &mut BTreeSet<T>, item: T, stays: bool) -> Result<(), AllocError>
     ensures { OnOk result ((q : T) → contains T.cmp set.new q ≡ cond (is_eq (T.cmp item q)) stays (contains T.cmp set.old q)) }
@@ -415,97 +406,6 @@ fn keep<T: Ord + Drop>(set: &mut BTreeSet<T>, item: T, stays: bool) -> Result<()
     } else {
         set.remove(&item);
         Ok(())
-    }
-}
-
-/// How a message waits, if it is there and not done.
-fn waits(world: &World, name: MsgId) -> Option<Waits>
-    ensures { result ≡ waits_in (world_of world.now) name }
-{
-    match world.message(name) {
-        Some(message) => match message.place {
-            Place::Flying(_) => Some(Waits::Moving),
-            Place::At(vat) => Some(waits_at(world, message, vat)),
-            Place::Done(_) => None,
-        },
-        None => None,
-    }
-}
-
-/// How a message waits at a vat.
-fn waits_at(world: &World, message: &Message, vat: VatNo) -> Waits
-    ensures { result ≡ waits_here (world_of world.now) vat (message_of message.now) }
-{
-    if !stays(&message.sent.delivery, vat) {
-        return Waits::Moving;
-    }
-    if are_done(world, message.sent.after.names()) {
-        Waits::Ready(vat)
-    } else {
-        Waits::Behind
-    }
-}
-
-/// Whether a message is at a vat and can do nothing but have its turn there.
-fn has_only_a_turn(message: &Message) -> bool
-    ensures { result ≡ only_turns (message_of message.now) (message_of message.now).place }
-{
-    match message.place {
-        Place::At(vat) => stays(&message.sent.delivery, vat),
-        Place::Flying(_) | Place::Done(_) => false,
-    }
-}
-
-/// Whether a delivery is made in this vat whatever is published or learnt: a call on what is there, an opening, or a question.
-fn stays(delivery: &Delivery, vat: VatNo) -> bool
-    ensures { result ≡ stays_of vat (delivery_of delivery.now) }
-{
-    match delivery {
-        Delivery::Sent(call) => is_there(&call.target, vat),
-        Delivery::Opening(_, _) | Delivery::Asked(_) => true,
-        Delivery::Waiting(_) => false,
-    }
-}
-
-/// Whether a call on this is made in this vat.
-fn is_there(target: &Value, vat: VatNo) -> bool
-    ensures { result ≡ is_there_of vat (val_of target.now) }
-{
-    match target {
-        Value::Object(object) => object.vat == vat,
-        Value::Ejector(ejector) => ejector.vat == vat,
-        Value::Promise(_) => false,
-        Value::Null
-        | Value::Bool(_)
-        | Value::Int(_)
-        | Value::Text(_)
-        | Value::List(_)
-        | Value::Broken(_) => true,
-    }
-}
-
-/// Whether all these messages are done.
-fn are_done(world: &World, names: &[MsgId]) -> bool
-    ensures { result ≡ is_none (first_undone (world_of world.now) names.now) }
-{
-    for name in names {
-        if !is_done(world, *name) {
-            return false;
-        }
-    }
-    true
-}
-
-/// Whether a message is there and done.
-fn is_done(world: &World, name: MsgId) -> bool
-    ensures { result ≡ done_in (message_in_world (world_of world.now) name) }
-{
-    match world.message(name) {
-        Some(message) => match message.place {
-            Place::Flying(_) | Place::At(_) => false,
-            Place::Done(_) => true,
-        },
-        None => false,
     }
 }
 
@@ -566,71 +466,28 @@ fn add_step(step: Option<Step>, steps: &mut Vec<Step>) -> Result<(), AllocError>
     }
 }
 
-/// What a message can do that waits so.
-fn step_by(
-    alloc: Global,
-    world: &World,
-    name: MsgId,
-    waits: Waits,
-    desk: &Desk,
-) -> Result<Option<Step>, AllocError>
-    ensures { IfOk result (λ step. step ≡ step_by_way (world_of world.now) (out_at desk.now) name waits) }
+/// What a message does that waits so.
+fn step_by(world: &World, name: MsgId, waits: Waits, desk: &Desk) -> Option<Step>
+    ensures { result ≡ step_by_way (world_of world.now) (out_at desk.now) name waits }
 {
     match waits {
-        Waits::Moving => message_step(alloc, world, name, desk),
-        Waits::Ready(vat) => Ok((!desk.has_vat(vat)).then_some(Step::Turn(name))),
-        Waits::Behind => Ok(None),
+        Waits::Moving => moves(world, name),
+        Waits::Ready(vat) => (!desk.has_vat(vat)).then_some(Step::Turn(name)),
+        Waits::Behind => None,
     }
 }
 
-/// What a message can do: arrive, go on, or have its turn.
-fn message_step(
-    alloc: Global,
-    world: &World,
-    name: MsgId,
-    desk: &Desk,
-) -> Result<Option<Step>, AllocError>
-    ensures { IfOk result (λ step. step ≡ message_step_of (world_of world.now) (out_at desk.now) name) }
+/// What a message does that moves: it arrives, or goes on.
+fn moves(world: &World, name: MsgId) -> Option<Step>
+    ensures { result ≡ moves_of name (message_in_world (world_of world.now) name) }
 {
     match world.message(name) {
         Some(message) => match message.place {
-            Place::Flying(_) => Ok(Some(Step::Arrive(name))),
-            Place::At(vat) => step_at(alloc, world, name, message, vat, desk),
-            Place::Done(_) => Ok(None),
+            Place::Flying(_) => Some(Step::Arrive(name)),
+            Place::At(_) => Some(Step::Forward(name)),
+            Place::Done(_) => None,
         },
-        None => Ok(None),
-    }
-}
-
-/// What a message at a vat can do: go on, or have its turn.
-fn step_at(
-    alloc: Global,
-    world: &World,
-    name: MsgId,
-    message: &Message,
-    vat: VatNo,
-    desk: &Desk,
-) -> Result<Option<Step>, AllocError>
-    ensures { IfOk result (λ step. step ≡ step_at_vat (world_of world.now) (out_at desk.now) name (message_of message.now) vat) }
-{
-    if onward(alloc, world, message, vat)?.is_some() {
-        return Ok(Some(Step::Forward(name)));
-    }
-    if desk.has_vat(vat) {
-        return Ok(None);
-    }
-    let ready = is_ready(alloc, world, message, vat)?;
-    Ok(ready.then_some(Step::Turn(name)))
-}
-
-/// Whether a message at a vat may be delivered.
-fn is_ready(alloc: Global, world: &World, message: &Message, vat: VatNo) -> Result<bool, AllocError>
-    ensures { IfOk result (λ ready. ready ≡ is_none (unready_at (world_of world.now) vat (message_of message.now))) }
-{
-    match check_ready(alloc, world, message, vat) {
-        Ok(_) => Ok(true),
-        Err(Delay::Memory) => Err(AllocError),
-        Err(Delay::Unready(_)) => Ok(false),
+        None => None,
     }
 }
 

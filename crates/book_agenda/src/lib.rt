@@ -3,3 +3,4 @@
 
 pub mod agenda;
 mod waiting;
+mod ways;

@@ -8,11 +8,11 @@ use std::collections::{BTreeMap, BTreeSet};
 /// How a message waits that is not done.
 #[derive(Clone, Copy)]
 pub(crate) enum Waits {
-    /// What it can do is looked for each time: it is on its way, or it hangs on what is published, or on what its vat knows.
+    /// It may arrive, or go on to another vat.
     Moving,
-    /// It may have its turn at this vat, and can do nothing else.
+    /// It may have its turn at this vat.
     Ready(VatNo),
-    /// It can do nothing before another message is done.
+    /// It sleeps: it can do nothing before one of the cells changes that tell how it waits.
     Behind,
 }
 

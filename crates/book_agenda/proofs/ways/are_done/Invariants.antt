@@ -1,7 +1,7 @@
 use Rattle.std.proofs.Common.{◌≡◌, drop}
 use Rattle.world_cells.specs.View.{world_of}
 use Rattle.event.specs.Ready.{first_undone}
-use Rattle.book_agenda.proofs.agenda.are_done.Given as goal
+use Rattle.book_agenda.proofs.ways.are_done.Given as goal
 
 -- the names before the place are done
 abbrev pub invariant-loop-name : goal.invariant-loop-name

@@ -5,7 +5,7 @@ use Rattle.event.specs.Ready.{first_undone}
 use Rattle.event.proofs.Waiting.{any_default, undone_next, undone_last}
 use Rattle.book_agenda.proofs.Ranges.{no_message}
 use Rattle.book_agenda.proofs.Stepping.{one_undone}
-use Rattle.book_agenda.proofs.agenda.are_done.Goals as goal
+use Rattle.book_agenda.proofs.ways.are_done.Goals as goal
 
 pub loop-name-preserved : goal.loop-name-preserved
 loop-name-preserved c =
