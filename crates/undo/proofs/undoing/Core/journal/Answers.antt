@@ -1,6 +1,6 @@
 use Rattle.std.proofs.Common.{sym, ap₂, subst}
 use Rattle.journal.specs.SettledView.{items_in}
-use Rattle.undo.proofs.Linked.{Followed, placed_settled}
+use Rattle.undo.proofs.Linked.{Followed, placed_settled, inherited_settled}
 use Rattle.undo.proofs.undoing.Core.journal.Goals as goal
 
 pub invariant_of-result : goal.invariant_of-result
@@ -9,4 +9,5 @@ invariant_of-result c =
     record {
       placed = placed_settled b.places b.settled.items c.deref.result.now b.entries.items c.deref-2.result.now (ap₂ items_in c.deref.ensures.value c.deref-2.ensures.value) b.placed;
       followed = subst (Followed b.followers) (sym c.deref-2.ensures.value) b.followed;
+      inherited = inherited_settled b.heirs b.settled.items c.deref.result.now b.entries.items c.deref-2.result.now (ap₂ items_in c.deref.ensures.value c.deref-2.ensures.value) b.inherited;
     }

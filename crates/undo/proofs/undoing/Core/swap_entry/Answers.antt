@@ -8,7 +8,9 @@ use Rattle.journal.specs.Journals.{settled_item}
 use Rattle.undo.specs.CoreView.{ready_of, swaps_of}
 use Rattle.undo.proofs.Behind.{step_behind, ready_behind, count_behind, keys_stay_behind}
 use Rattle.undo.proofs.Entries.{stepped, ready_within, ready_at, count_at, keys_stay, keys_after}
-use Rattle.undo.proofs.Linked.{placed_set, followed_set}
+use Rattle.journal.specs.Settled.{written_by}
+use Rattle.journal.proofs.Linked.{written_swapped}
+use Rattle.undo.proofs.Linked.{placed_set, followed_set, inherited_set}
 use Rattle.undo.proofs.undoing.Core.swap_entry.Goals as goal
 
 pub invariant_of-self : goal.invariant_of-self
@@ -22,6 +24,8 @@ invariant_of-self c =
     record {
       placed = placed_set b.places b.settled.items xs place x c.swap_one.new.entry (ap (λ (r : Item × State cells). r.0.event.name) same) b.placed;
       followed = followed_set b.followers xs place x c.swap_one.new.entry (ap (λ (r : Item × State cells). r.0.event.name) same) (ap (λ (r : Item × State cells). r.0.lasts) same) b.followed;
+      inherited = inherited_set b.heirs b.settled.items xs place x c.swap_one.new.entry (ap (λ (r : Item × State cells). r.0.event.name) same)
+          (ap (λ (r : Item × State cells). written_by r.0) same ∙ written_swapped (is_live c.args.mark) (item_of (get_or xs place x)) w) b.inherited;
     }
 
 pub swap_one-requires : goal.swap_one-requires
