@@ -15,9 +15,9 @@ returns-in_ok-publish-in-Some-Open-clause-did c =
 
 pub returns-in-Some-Resolved-clause-did : goal.returns-in-Some-Resolved-clause-did
 returns-in-Some-Resolved-clause-did c =
-    used_before c.no_use.result (making_of published_of) c.args.promise (val_of c.args.value) (Some (viewed (resolved (val_of c.in-Some-Resolution.field-0-0)))) c.args.draft.now c.reach_view.new.self
+    used_before c.no_use.result (making_of published_of) c.args.promise (val_of c.args.value) (Some (viewed (resolved (val_of c.in-Some-Resolved.field-0-0)))) c.args.draft.now c.reach_view.new.self
     (touched_one (view_cell c.args.promise) c.args.draft.now c.reach_view.new.self c.in_ok-reach_view.ensures.state c.in_ok-reach_view.ensures.touched c.in_ok-reach_view.ensures.written)
-    (sym c.in-Some-Resolution.ensures ∙ ap (λ k. Some (viewed (view_of k))) c.in-Some-Resolution.field-0-is) refl c.no_use.ensures
+    (sym c.in-Some-Resolved.ensures ∙ ap (λ k. Some (viewed (view_of k))) c.in-Some-Resolved.field-0-is) refl c.no_use.ensures
 
 pub returns-in-None-clause-did : goal.returns-in-None-clause-did
 returns-in-None-clause-did c =
