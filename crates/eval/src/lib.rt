@@ -1,6 +1,6 @@
 //! Evaluation: how an expression ends, and what it does to the state of its vat.
 //!
-//! Each function has as its contract that what it gives has a derivation by the rules in `erules`.
+//! Each function has as its contract that what it gives has a derivation by the rules in `eval_rules`.
 #![tactic(auto)]
 
 pub mod calling;

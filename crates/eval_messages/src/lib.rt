@@ -1,6 +1,6 @@
 //! What an evaluation does with promises and messages: ends, sends, whens, resolvers, and what a reference is.
 //!
-//! The rules stand in `erules/specs/Doings.antt`. Each function does its part to the vat's state under the turn, as the crate `sends` has
+//! The rules stand in `eval_rules/specs/Doings.antt`. Each function does its part to the vat's state under the turn, as the crate `sends` has
 //! it, and puts what was made into the turn's outbox.
 #![tactic(auto)]
 

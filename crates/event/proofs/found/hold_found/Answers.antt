@@ -8,7 +8,7 @@ use Rattle.event.proofs.found.hold_found.Goals as goal
 pub loop-place-preserved : goal.loop-place-preserved
 loop-place-preserved g c =
     let eq = g.K.PartialEq.eq in
-    let content = g.V.Held.content in
+    let content = g.V.StandsFor.content in
     let touches = c.args.touches.now in
     let cells = c.args.cells.now in
     let k = c.at.result.0.now in
@@ -18,14 +18,14 @@ loop-place-preserved g c =
 
 pub returns : goal.returns
 returns g c = (
-  λ t. found_all g.K.PartialEq.eq g.V.Held.content c.args.touches.now c.args.cells.now g.met.K.Key.exact c.loop-place.place (omega (arith, c.len-place-end.ensures.count)) c.loop-place.invariant,
+  λ t. found_all g.K.PartialEq.eq g.V.StandsFor.content c.args.touches.now c.args.cells.now g.met.K.Key.exact c.loop-place.place (omega (arith, c.len-place-end.ensures.count)) c.loop-place.invariant,
   λ all. refl,
 )
 
 pub returns-then-not-both_hold : goal.returns-then-not-both_hold
 returns-then-not-both_hold g c =
     let eq = g.K.PartialEq.eq in
-    let content = g.V.Held.content in
+    let content = g.V.StandsFor.content in
     let touches = c.args.touches.now in
     let cells = c.args.cells.now in
     let k = c.at.result.0.now in

@@ -3,7 +3,7 @@ use Rattle.values.specs.View.{val_of}
 use Rattle.values.specs.Same.{same_as}
 use Rattle.values.proofs.Equivalence.{itself, equal}
 use Rattle.heap.specs.State.{held}
-use Rattle.event.proofs.found.ValueHeld.is_same.Goals as goal
+use Rattle.event.proofs.found.ValueStandsFor.is_same.Goals as goal
 
 pub returns : goal.returns
 returns c =
