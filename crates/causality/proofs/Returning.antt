@@ -4,6 +4,7 @@ use Rattle.std.specs.Prelude.{not}
 use Rattle.std.specs.List.{list_any, list_all, AllByRecursion}
 use Rattle.std.specs.Option.{option_map_or}
 use Rattle.std.proofs.Props.{props}
+use Rattle.std.proofs.Math.Bool.{Bool-set}
 use Rattle.std.proofs.Math.Logic.{∥∥₁_elim}
 use Rattle.std.proofs.lemmas.Bool.{or_left, or_right, or_cases, and_parts, and_from, ltb-false}
 use Rattle.std.proofs.lemmas.List.{length-map}
@@ -28,8 +29,8 @@ use Rattle.journal_links.specs.Places.{place_of, ArePlaces}
 use Rattle.journal_links.specs.declared.places.Places.{Places}
 use Rattle.journal_links.specs.declared.followers.Followers.{Followers}
 use Rattle.journal_links.specs.declared.heirs.Heirs.{Heirs}
-use Rattle.world_cells.specs.Theory.{Content}
-use Rattle.journal.specs.Items.{Item, item_of}
+use Rattle.world_cells.specs.World.{Content}
+use Rattle.journal.specs.Items.{Item, item_of, lasts_of}
 use Rattle.journal.specs.Lines.{plain, Line, line_of, lines_of, entries_in, writer_of}
 use Rattle.journal.specs.Settled.{written_by}
 use Rattle.journal.specs.Links.{lister, AreFollowers, AreHeirs, names_of, open_at}
@@ -80,18 +81,18 @@ pair_is : (p q : CellKey × Option ℕ) → p.0 ≡ q.0 → p.1 ≡ q.1 → p �
 pair_is p q h g = λ j. (h j, g j)
 
 -- who has a record of a cell wrote it
-pub wrote_is : (k : CellKey) (rs : List (CellKey × (Option Content × Option ℕ))) → list_any (λ (r : CellKey × (Option Content × Option ℕ)). same_key r.0 k) rs ≡ is_some (found plain (map (λ (r : CellKey × (Option Content × Option ℕ)). (r.0, tt)) rs) k)
+pub wrote_is : (k : CellKey) (rs : List (CellKey × (Option Content × Option ℕ))) → list_any (λ (r : CellKey × (Option Content × Option ℕ)). same_key r.0 k) rs ≡ is_some (found plain (map {B = CellKey × Unit {0}} (λ (r : CellKey × (Option Content × Option ℕ)). (r.0, tt)) rs) k)
 wrote_is k [] = refl
 wrote_is k (r ∷ rs) = by (same_key r.0 k) (wrote_is k rs)
   where
-    by : (b : Bool) → list_any (λ (r : CellKey × (Option Content × Option ℕ)). same_key r.0 k) rs ≡ is_some (found plain (map (λ (r : CellKey × (Option Content × Option ℕ)). (r.0, tt)) rs) k)
-        → (b || list_any (λ (r : CellKey × (Option Content × Option ℕ)). same_key r.0 k) rs) ≡ is_some (cond b (Some tt) (found plain (map (λ (r : CellKey × (Option Content × Option ℕ)). (r.0, tt)) rs) k))
+    by : (b : Bool) → list_any (λ (r : CellKey × (Option Content × Option ℕ)). same_key r.0 k) rs ≡ is_some (found plain (map {B = CellKey × Unit {0}} (λ (r : CellKey × (Option Content × Option ℕ)). (r.0, tt)) rs) k)
+        → (b || list_any (λ (r : CellKey × (Option Content × Option ℕ)). same_key r.0 k) rs) ≡ is_some (cond b (Some tt) (found plain (map {B = CellKey × Unit {0}} (λ (r : CellKey × (Option Content × Option ℕ)). (r.0, tt)) rs) k))
     by true ih = refl
     by false ih = ih
 
 -- an item that wrote a cell is listed where those are listed that had its last writer
 listed_at : (on_list : EventName → EventName → Bool) (e : EventName) (w : CellKey → Option ℕ) (k : CellKey) (rs : List (CellKey × (Option Content × Option ℕ)))
-    → AllByRecursion (λ (p : CellKey × Option ℕ). on_list (lister p.0 p.1) e ≡ true) (map (λ (r : CellKey × (Option Content × Option ℕ)). (r.0, w r.0)) rs)
+    → AllByRecursion (λ (p : CellKey × Option ℕ). on_list (lister p.0 p.1) e ≡ true) (map {B = CellKey × Option ℕ} (λ (r : CellKey × (Option Content × Option ℕ)). (r.0, w r.0)) rs)
     → list_any (λ (r : CellKey × (Option Content × Option ℕ)). same_key r.0 k) rs ≡ true → on_list (lister k (w k)) e ≡ true
 listed_at on_list e w k [] h some = absurd (true≢false (sym some))
 listed_at on_list e w k (r ∷ rs) (h, hs) some = elim (or_cases (same_key r.0 k) (list_any (λ (q : CellKey × (Option Content × Option ℕ)). same_key q.0 k) rs) some) [
@@ -103,9 +104,6 @@ listed_at on_list e w k (r ∷ rs) (h, hs) some = elim (or_cases (same_key r.0 k
 pub over_written : (p : CellKey × Option ℕ) (f : Item) → list_any (is_version p) (written_by f) ≡ wrote_over p f
 over_written p f = each f.kept
   where
-    had : Bool
-    had = is_one (writer_of f p.0) p.1
-
     never : (b : Bool) → false ≡ (b && false)
     never true = refl
     never false = refl
@@ -114,14 +112,24 @@ over_written p f = each f.kept
     joined true c = refl
     joined false c = refl
 
-    each : (rs : List (CellKey × (Option Content × Option ℕ))) → list_any (is_version p) (map (λ r. (r.0, writer_of f r.0)) rs) ≡ (is_one (writer_of f p.0) p.1 && list_any (λ r. same_key r.0 p.0) rs)
+    each : (rs : List (CellKey × (Option Content × Option ℕ))) → list_any (is_version p) (map {B = CellKey × Option ℕ} (λ (r : CellKey × (Option Content × Option ℕ)). (r.0, writer_of f r.0)) rs) ≡ (is_one (writer_of f p.0) p.1 && list_any (λ r. same_key r.0 p.0) rs)
     each [] = never (is_one (writer_of f p.0) p.1)
     each (r ∷ rs) = by (same_key r.0 p.0) refl (each rs)
       where
-        by : (b : Bool) → same_key r.0 p.0 ≡ b → list_any (is_version p) (map (λ r. (r.0, writer_of f r.0)) rs) ≡ (is_one (writer_of f p.0) p.1 && list_any (λ r. same_key r.0 p.0) rs)
-            → ((b && is_one (writer_of f r.0) p.1) || list_any (is_version p) (map (λ r. (r.0, writer_of f r.0)) rs)) ≡ (is_one (writer_of f p.0) p.1 && (b || list_any (λ r. same_key r.0 p.0) rs))
+        by : (b : Bool) → same_key r.0 p.0 ≡ b → list_any (is_version p) (map {B = CellKey × Option ℕ} (λ (r : CellKey × (Option Content × Option ℕ)). (r.0, writer_of f r.0)) rs) ≡ (is_one (writer_of f p.0) p.1 && list_any (λ r. same_key r.0 p.0) rs)
+            → ((b && is_one (writer_of f r.0) p.1) || list_any (is_version p) (map {B = CellKey × Option ℕ} (λ (r : CellKey × (Option Content × Option ℕ)). (r.0, writer_of f r.0)) rs)) ≡ (is_one (writer_of f p.0) p.1 && (b || list_any (λ r. same_key r.0 p.0) rs))
         by true same ih = ap₂ (λ x y. x || y) (ap (λ k. is_one (writer_of f k) p.1) (same_exact r.0 p.0 same)) ih ∙ joined (is_one (writer_of f p.0) p.1) (list_any (λ r. same_key r.0 p.0) rs)
         by false other ih = ih
+
+-- so a settled entry keeps it
+pub settled_over : (s : Settled) (p : CellKey × Option ℕ) → list_any (is_version p) (lasts_of s.written.items) ≡ wrote_over p (settled_item s)
+settled_over s p = ∥∥₁_elim s.keeps (Bool-set _ _) (λ keeps. ap (list_any (is_version p)) keeps.cells ∙ over_written p (settled_item s))
+
+-- and it is live
+pub settled_stays : (names : List EventName) (ss : List Settled) (ys : List Item) (p : ℕ) → p < length ss → true ≡ passes_at (stays names) (map settled_item ss ++ ys) p
+settled_stays names [] ys p h = absurd (omega arith)
+settled_stays names (s ∷ ss) ys zero h = refl
+settled_stays names (s ∷ ss) ys (suc p) h = settled_stays names ss ys p (omega arith)
 
 any_there : {A : Type 0} (test : A → Bool) (ys : List A) (r : ℕ) (y : A) → slice_get ys r ≡ Some y → test y ≡ true → list_any test ys ≡ true
 any_there test [] r y at h = cc

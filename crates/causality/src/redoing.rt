@@ -1,8 +1,8 @@
 // Whether a set may be redone, by the places and the lists that a journal keeps.
-ghost use Rattle.std.specs.Prelude.{◌≡◌, IsTrue, ◌&&◌, ◌<◌, true, not, map, length, None, Some, nat_lt};
-ghost use Rattle.std.specs.List.{list_all, list_any};
+ghost use Rattle.std.specs.Prelude.{◌≡◌, ◌&&◌, ◌<◌, IsTrue, map, length, None};
+ghost use Rattle.std.specs.List.{list_any};
 ghost use Rattle.history_consequences.specs.Versions.{is_one};
-ghost use Rattle.journal.specs.Items.{item_of, number_of, last_of};
+ghost use Rattle.journal.specs.Items.{item_of, number_of, last_of, lasts_of};
 ghost use Rattle.journal.specs.Journals.{items_of, settled_item};
 ghost use Rattle.journal.specs.Lines.{lines_of};
 ghost use Rattle.causality.specs.Causes.{passes_at};
@@ -57,38 +57,55 @@ fn wrote_over(entry: &Entry, cell: &Touched) -> bool
     is_one(writer_among(&entry.touched, &cell.key), cell.writer) && wrote(entry, &cell.key)
 }
 
-/// Whether a settled entry wrote a cell that had this last writer.
-fn settled_wrote_over(settled: &Settled, cell: &Touched) -> bool
-    ensures { result ≡ model.wrote_over (last_of cell.now) (settled_item settled.now) }
+/// Whether one of these cells is of this version.
+fn any_version(cells: &[Touched], cell: &Touched) -> bool
+    ensures { result ≡ list_any (model.is_version (last_of cell.now)) (lasts_of cells.now) }
 {
-    for written in &settled.written {
-        if is_version(cell, written) {
+    for other in cells {
+        if is_version(cell, other) {
             return true;
         }
     }
     false
+}
+
+/// Whether a settled entry wrote a cell that had this last writer.
+fn settled_wrote_over(settled: &Settled, cell: &Touched) -> bool
+    ensures { result ≡ model.wrote_over (last_of cell.now) (settled_item settled.now) }
+{
+    any_version(&settled.written, cell)
+}
+
+/// Whether an entry is live or of the set, and wrote a cell that had this last writer.
+fn is_writer(entry: &Entry, names: &NameSet, cell: &Touched) -> bool
+    ensures { result ≡ (stays names.now (item_of entry.now) && model.wrote_over (last_of cell.now) (item_of entry.now)) }
+{
+    stays(entry, names) && wrote_over(entry, cell)
 }
 
 /// Whether an entry found a cell with this last writer.
 fn found_so(entry: &Entry, cell: &Touched) -> bool
     ensures { result ≡ model.found_so (last_of cell.now) (item_of entry.now) }
 {
-    for touched in &entry.touched {
-        if is_version(cell, touched) {
-            return true;
-        }
-    }
-    false
+    any_version(&entry.touched, cell)
 }
 
-/// Whether the entry at a place is live or of the set.
+/// Whether an entry is live or of the set, and found a cell with this last writer.
+fn is_finder(entry: &Entry, names: &NameSet, cell: &Touched) -> bool
+    ensures { result ≡ (stays names.now (item_of entry.now) && model.found_so (last_of cell.now) (item_of entry.now)) }
+{
+    stays(entry, names) && found_so(entry, cell)
+}
+
+/// Whether the entry at a place is live or of the set. What is settled is live.
 fn stays_at(journal: Journal, names: &NameSet, place: usize) -> bool
     requires { place < length (items_of journal) }
     ensures { result ≡ passes_at (stays names.now) (items_of journal.entry) place }
 {
-    // What is settled is live.
-    place < journal.settled.len()
-        || stays(&journal.entries[place - journal.settled.len()], names)
+    if place < journal.settled.len() {
+        return true;
+    }
+    stays(&journal.entries[place - journal.settled.len()], names)
 }
 
 /// Whether the entry at a place is live or of the set, and wrote a cell that had this last writer.
@@ -99,8 +116,7 @@ fn wrote_over_at(journal: Journal, names: &NameSet, place: usize, cell: &Touched
     if place < journal.settled.len() {
         return settled_wrote_over(&journal.settled[place], cell);
     }
-    let entry = &journal.entries[place - journal.settled.len()];
-    stays(entry, names) && wrote_over(entry, cell)
+    is_writer(&journal.entries[place - journal.settled.len()], names, cell)
 }
 
 /// Whether a writer is nobody, or an event that is live or of the set.
@@ -186,7 +202,7 @@ fn is_behind(
         return false;
     }
     match journal.open_entry(event) {
-        Some(entry) => stays(entry, names) && found_so(entry, cell),
+        Some(entry) => is_finder(entry, names, cell),
         None => false,
     }
 }
@@ -244,6 +260,15 @@ fn is_found_any(journal: Journal, names: &NameSet, place: usize, entry: &Entry) 
     false
 }
 
+/// Whether an entry may be redone at a place, together with the others of the set.
+fn entry_may_return(journal: Journal, names: &NameSet, place: usize, entry: &Entry) -> bool
+    ensures { result ≡ model.may_return journal.entry.places.now journal.entry.followers.now journal.entry.heirs.now names.now (items_of journal.entry) (map item_of journal.entry.entries.now) (length journal.entry.settled.now) place (item_of entry.now) }
+{
+    has_writers(journal, names, entry)
+        && !is_overtaken_any(journal, names, place, entry)
+        && !is_found_any(journal, names, place, entry)
+}
+
 /// Whether an event may be redone where it stands, together with the others of the set.
 fn may_return(journal: Journal, names: &NameSet, event: EventName) -> bool
     ensures { result ≡ model.may_return_named journal.entry.places.now journal.entry.followers.now journal.entry.heirs.now names.now (items_of journal.entry) (map item_of journal.entry.entries.now) (length journal.entry.settled.now) event }
@@ -252,11 +277,7 @@ fn may_return(journal: Journal, names: &NameSet, event: EventName) -> bool
         return false;
     };
     match journal.open_entry(event) {
-        Some(entry) => {
-            has_writers(journal, names, entry)
-                && !is_overtaken_any(journal, names, place, entry)
-                && !is_found_any(journal, names, place, entry)
-        }
+        Some(entry) => entry_may_return(journal, names, place, entry),
         None => false,
     }
 }

@@ -9,7 +9,8 @@ use Rattle.journal_links.proofs.Following.{Keeps}
 use Rattle.history.specs.Records.{State, Record, hold, swap_record}
 use Rattle.history.proofs.Lists.{all_map, all_append}
 use Rattle.world_cells.specs.Records.{record_of}
-use Rattle.world_cells.specs.Theory.{Content, cells, kept_of, kepts_of}
+use Rattle.world_cells.specs.Theory.{cells, kept_of, kepts_of}
+use Rattle.world_cells.specs.World.{Content}
 use Rattle.world_cells.specs.declared.record.CellRecord.{CellRecord}
 use Rattle.journal.specs.Items.{Item, item_of, last_of, lasts_of, swap_item, exchanged}
 use Rattle.journal.specs.Lines.{last_among}
@@ -165,7 +166,7 @@ module _ (lasts : Item → List (CellKey × Option ℕ)) where
 pub written_swapped : (live : Bool) (i : Item) (w : State cells) → written_by (swap_item live i w).0 ≡ written_by i
 written_swapped live i w = each i.kept w
   where
-    each : (ps : Record cells) (v : State cells) → map (λ r. (r.0, last_among i.lasts r.0)) (swap_record cells ps v) ≡ map (λ r. (r.0, last_among i.lasts r.0)) ps
+    each : (ps : Record cells) (v : State cells) → map {B = CellKey × Option ℕ} (λ r. (r.0, last_among i.lasts r.0)) (swap_record cells ps v) ≡ map {B = CellKey × Option ℕ} (λ r. (r.0, last_among i.lasts r.0)) ps
     each [] v = refl
     each (p ∷ ps) v = ap (λ l. (p.0, last_among i.lasts p.0) ∷ l) (each ps (hold cells v p.0 p.1))
 
@@ -182,7 +183,7 @@ pub inherits_more : (old new : EventName → EventName → Bool) (e : EventName)
     → new (lister (record_of (get_or xs i d)).0 (last_among lasts (record_of (get_or xs i d)).0)) e ≡ true
     → IsListed new e (map (λ r. (r.0, last_among lasts r.0)) (kepts_of (take (i + 1) xs)))
 inherits_more old new e lasts xs i d h kept before here =
-    let pair = λ (r : CellKey × (Option Content × Option ℕ)). (r.0, last_among lasts r.0) in
+    let pair : CellKey × (Option Content × Option ℕ) → CellKey × Option ℕ = λ r. (r.0, last_among lasts r.0) in
     subst (IsListed new e)
     (sym (ap (λ l. map pair (kepts_of l)) (take_more xs i d h) ∙ ap (map pair) (map-append kept_of (take i xs) (get_or xs i d ∷ [])) ∙ map-append pair (kepts_of (take i xs)) (kept_of (get_or xs i d) ∷ [])))
     (listed_append old new kept e (map pair (kepts_of (take i xs))) (pair (kept_of (get_or xs i d))) before here)
