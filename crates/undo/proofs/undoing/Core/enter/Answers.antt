@@ -98,6 +98,11 @@ returns-in_err-list_follower-clause-err c =
     on_err (◌≡◌ {A = List Item × State cells} (items_of c.args.self.now, state_of_world c.make_rooms.new.world) (shown c.args.self.now)) _
     (λ j. (items_of c.args.self.now, λ k. numbered (c.make_rooms.ensures.seen j k)))
 
+pub returns-in_err-list_heir-clause-err : goal.returns-in_err-list_heir-clause-err
+returns-in_err-list_heir-clause-err c =
+    on_err (◌≡◌ {A = List Item × State cells} (items_of c.args.self.now, state_of_world c.make_rooms.new.world) (shown c.args.self.now)) _
+    (λ j. (items_of c.args.self.now, λ k. numbered (c.make_rooms.ensures.seen j k)))
+
 pub returns-in_err-push-clause-err : goal.returns-in_err-push-clause-err
 returns-in_err-push-clause-err c =
     on_err (◌≡◌ {A = List Item × State cells} (items_in c.args.self.now.settled.items c.push.new.self.items, state_of_world c.make_rooms.new.world) (shown c.args.self.now)) _
