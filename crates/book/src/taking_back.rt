@@ -17,6 +17,7 @@ use crate::book::{Book, noted};
 use crate::fault::BookFault;
 use causality::cone::cone;
 use causality::names::NameSet;
+use causality::redoing::may_redo;
 use causality::selection::{
     first_crossing, first_gap, first_marked, first_missing_cause, first_settled, least_missing,
     positions,
@@ -99,6 +100,10 @@ fn check_redo(alloc: Global, journal: Journal, names: &NameSet) -> Result<(), Bo
 {
     check_open(journal, names)?;
     check_undone(journal, names)?;
+    if may_redo(journal, names) {
+        return Ok(());
+    }
+    // Something is in the way: only which it is, is found by going over the journal.
     if let Some(gap) = first_missing_cause(alloc, journal, names)? {
         return Err(BookFault::CauseMissing(gap.event, gap.other));
     }

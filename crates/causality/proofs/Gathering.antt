@@ -17,14 +17,14 @@ use Rattle.history.proofs.Lists.{all_map, any_gives, any_none, any_same, all_of}
 use Rattle.ids.specs.declared.names.EventName.{EventName}
 use Rattle.ids.specs.declared.cells.CellKey.{CellKey}
 use Rattle.journal_links.specs.Places.{place_of, ArePlaces}
-use Rattle.journal_links.specs.Followers.{followers_of, may_follow, Follows}
+use Rattle.journal_links.specs.Followers.{followers_of, may_follow}
 use Rattle.journal_links.specs.declared.places.Places.{Places}
 use Rattle.journal_links.specs.declared.followers.Followers.{Followers}
 use Rattle.journal.specs.Items.{Item, item_of}
 use Rattle.journal.specs.Journals.{settled_item}
 use Rattle.journal.specs.SettledView.{items_in}
 use Rattle.journal.specs.Lines.{plain, Line, line_of, lines_of, entries_in}
-use Rattle.journal.specs.Links.{AreFollowers, names_of, open_at}
+use Rattle.journal.specs.Links.{lister, IsListed, AreFollowers, names_of, open_at}
 use Rattle.journal.specs.declared.entry.Entry as code
 use Rattle.journal.specs.declared.settled.Settled.{Settled}
 use Rattle.journal.proofs.Touching.{any-map}
@@ -199,7 +199,7 @@ listed_followers places followers ss xs w names placed followed journal list q =
     listed follow r i at after =
         sym (ap (λ o. option_map_or (λ es. list_any (λ (f : EventName). f.0 == i.event.name.0) es) o true) list)
         ∙ any_gives (may_follow followers w i.event.name ≡ true) (λ (p : CellKey × Option ℕ). is_name p.1 w.0) i.lasts after
-        (all_map _ _ i.lasts (λ p h is. h w (named_is p.1 w.0 is)) (all_place (λ (j : Item). Follows followers j.event.name j.lasts) (map item_of xs) follow r i at))
+        (all_map _ _ i.lasts (λ p h is. ap (λ o. may_follow followers (lister p.0 o) i.event.name) (sym (named_is p.1 w.0 is)) ∙ h) (all_place (λ (j : Item). IsListed (may_follow followers) j.event.name j.lasts) (map item_of xs) follow r i at))
 
 pub any_followers : (places : Places) (ss : List Settled) (xs : List code.Entry) (w : EventName) → ∥ ArePlaces places (names_of (items_in ss xs)) ∥₁ → IsJournal (items_in ss xs)
     → (q : ℕ) → list_any (λ x. is_name (place_if places (is_follower w.0 (map item_of xs) (length ss)) x.event.name) q) xs ≡ is_follower w.0 (map item_of xs) (length ss) q

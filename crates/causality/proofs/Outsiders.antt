@@ -14,12 +14,12 @@ use Rattle.history.proofs.Lists.{all_map, all_both, all_of, any_gives, any_none}
 use Rattle.ids.specs.declared.names.EventName.{EventName}
 use Rattle.ids.specs.declared.cells.CellKey.{CellKey}
 use Rattle.journal_links.specs.Places.{place_of, ArePlaces}
-use Rattle.journal_links.specs.Followers.{followers_of, may_follow, Follows}
+use Rattle.journal_links.specs.Followers.{followers_of, may_follow}
 use Rattle.journal_links.specs.declared.places.Places.{Places}
 use Rattle.journal_links.specs.declared.followers.Followers.{Followers}
 use Rattle.journal.specs.Items.{Item, item_of}
 use Rattle.journal.specs.SettledView.{settled_item, items_in}
-use Rattle.journal.specs.Links.{AreFollowers, names_of, open_at}
+use Rattle.journal.specs.Links.{lister, IsListed, AreFollowers, names_of, open_at}
 use Rattle.journal.specs.declared.entry.Entry as code
 use Rattle.journal.specs.declared.settled.Settled.{Settled}
 use Rattle.causality.specs.Journals.{IsJournal}
@@ -68,7 +68,7 @@ listed_name : (followers : Followers) (opens : List Item) (w : EventName) (names
 listed_name followers opens w names follow list r i at after =
     sym (ap (λ o. option_map_or (λ es. list_any (λ (f : EventName). f.0 == i.event.name.0) es) o true) list)
     ∙ any_gives (may_follow followers w i.event.name ≡ true) (λ (p : CellKey × Option ℕ). is_name p.1 w.0) i.lasts after
-    (all_map _ _ i.lasts (λ p h is. h w (named_is p.1 w.0 is)) (all_place (λ (j : Item). Follows followers j.event.name j.lasts) opens follow r i at))
+    (all_map _ _ i.lasts (λ p h is. ap (λ o. may_follow followers (lister p.0 o) i.event.name) (sym (named_is p.1 w.0 is)) ∙ h) (all_place (λ (j : Item). IsListed (may_follow followers) j.event.name j.lasts) opens follow r i at))
 
 module _ (places : Places) (ss : List Settled) (xs : List code.Entry) (names : List EventName) (are : ArePlaces places (names_of (items_in ss xs))) (apart : Apart (map number (items_in ss xs))) where
   abbrev open_items : List Item

@@ -3,6 +3,7 @@ pub mod Causes
 pub mod Selections
 pub mod Names
 pub mod Walks
+pub mod Returning
 pub mod Placed
 pub mod Parting
 pub mod Exact

@@ -1,16 +1,23 @@
 -- Places and followers stay right as entries come, change places, are exchanged with the cells, and settle.
-use Rattle.std.proofs.Common.{◌≡◌, ◌≢◌, ◌∙◌, ℕ, zero, suc, ◌+◌, ◌<◌, true, List, [], ◌∷◌, ◌++◌, Option, Some, None, length, map, set, get_or, take, drop, slice_get, refl, sym, ap, subst, add-one, arith}
+use Rattle.std.proofs.Common.{◌≡◌, ◌≢◌, ◌∙◌, ℕ, zero, suc, ◌+◌, ◌<◌, Bool, true, List, [], ◌∷◌, ◌++◌, Option, Some, None, length, map, set, get_or, take, drop, slice_get, refl, sym, ap, subst, add-one, arith}
 use Rattle.std.specs.List.{AllByRecursion}
 use Rattle.std.proofs.lemmas.List.{map-append, take_more, length-map, length-append}
 use Rattle.ids.specs.declared.names.EventName.{EventName}
 use Rattle.ids.specs.declared.cells.CellKey.{CellKey}
-use Rattle.journal_links.specs.Followers.{may_follow, IsLetGo, Follows}
+use Rattle.journal_links.specs.Followers.{IsLetGo}
 use Rattle.journal_links.specs.declared.followers.Followers.{Followers}
 use Rattle.journal_links.proofs.Placing.{Swapped}
-use Rattle.journal_links.proofs.Following.{Keeps, follows_kept, follows_append}
-use Rattle.history.proofs.Lists.{all_map}
-use Rattle.journal.specs.Items.{Item, item_of, last_of, lasts_of, number_of, exchanged}
-use Rattle.journal.specs.Links.{AreFollowers, names_of}
+use Rattle.journal_links.proofs.Following.{Keeps}
+use Rattle.history.specs.Records.{State, Record, hold, swap_record}
+use Rattle.history.proofs.Lists.{all_map, all_append}
+use Rattle.world_cells.specs.Records.{record_of}
+use Rattle.world_cells.specs.Theory.{cells, kept_of, kepts_of}
+use Rattle.world_cells.specs.World.{Content}
+use Rattle.world_cells.specs.declared.record.CellRecord.{CellRecord}
+use Rattle.journal.specs.Items.{Item, item_of, last_of, lasts_of, swap_item, exchanged}
+use Rattle.journal.specs.Lines.{last_among}
+use Rattle.journal.specs.Links.{lister, IsListed, AreListed, names_of}
+use Rattle.journal.specs.Settled.{written_by}
 use Rattle.journal.specs.SettledView.{settled_item, items_in}
 use Rattle.journal.specs.declared.entry.Entry.{Entry}
 use Rattle.journal.specs.declared.entry.Touched.{Touched}
@@ -123,30 +130,65 @@ names_swapped names n a b h g =
       back = other_back n names a b h next;
     }
 
--- ---- followers
+-- ---- what is listed
 
-pub followers_kept : (old new : Followers) → Keeps old new → (items : List Item) → AreFollowers old items → AreFollowers new items
-followers_kept old new kept items h = all_map _ _ items (λ i follows. follows_kept old new kept i.event.name i.lasts follows) h
+listed_kept : (old new : EventName → EventName → Bool) → Keeps old new → (e : EventName) (lasts : List (CellKey × Option ℕ)) → IsListed old e lasts → IsListed new e lasts
+listed_kept old new kept e lasts h = all_map _ _ lasts (λ p on. kept (lister p.0 p.1) e on) h
 
-pub followers_more : (followers : Followers) (xs : List Entry) (y : Entry) → AreFollowers followers (map item_of xs) → Follows followers (item_of y).event.name (item_of y).lasts → AreFollowers followers (map item_of (xs ++ y ∷ []))
-followers_more followers xs y h g = subst (AreFollowers followers) (sym (map-append item_of xs (y ∷ []))) (all_end _ (map item_of xs) (item_of y) h g)
+-- one more cell
+pub listed_append : (old new : EventName → EventName → Bool) → Keeps old new → (e : EventName) (lasts : List (CellKey × Option ℕ)) (p : CellKey × Option ℕ) → IsListed old e lasts → new (lister p.0 p.1) e ≡ true → IsListed new e (lasts ++ p ∷ [])
+listed_append old new kept e lasts p h g = all_end _ lasts p (listed_kept old new kept e lasts h) g
 
-pub followers_set : (followers : Followers) (xs : List Entry) (i : ℕ) (d y : Entry) → (item_of y).event.name ≡ (item_of (get_or xs i d)).event.name → (item_of y).lasts ≡ (item_of (get_or xs i d)).lasts
-    → AreFollowers followers (map item_of xs) → AreFollowers followers (map item_of (set xs i y))
-followers_set followers xs i d y name lasts h = all_set (λ (j : Item). Follows followers j.event.name j.lasts) item_of xs i d y (λ follows. subst (λ e. Follows followers e (item_of y).lasts) (sym name) (subst (Follows followers (item_of (get_or xs i d)).event.name) (sym lasts) follows)) h
+module _ (lasts : Item → List (CellKey × Option ℕ)) where
+  pub items_kept : (old new : EventName → EventName → Bool) → Keeps old new → (items : List Item) → AreListed old lasts items → AreListed new lasts items
+  items_kept old new kept items h = all_map _ _ items (λ i listed. listed_kept old new kept i.event.name (lasts i) listed) h
 
-pub followers_exchanged : (followers : Followers) (n : ℕ) (xs : List Entry) → AreFollowers followers (map item_of xs) → AreFollowers followers (map item_of (exchanged n xs))
-followers_exchanged followers n xs h = subst (AreFollowers followers) (sym (map-exchanged item_of n xs)) (all_exchanged _ n (map item_of xs) h)
+  pub items_more : (on_list : EventName → EventName → Bool) (xs : List Entry) (y : Entry) → AreListed on_list lasts (map item_of xs) → IsListed on_list (item_of y).event.name (lasts (item_of y)) → AreListed on_list lasts (map item_of (xs ++ y ∷ []))
+  items_more on_list xs y h g = subst (AreListed on_list lasts) (sym (map-append item_of xs (y ∷ []))) (all_end _ (map item_of xs) (item_of y) h g)
 
-pub followers_left : (followers : Followers) (n : ℕ) (xs : List Entry) → AreFollowers followers (map item_of xs) → AreFollowers followers (map item_of (drop n xs))
-followers_left followers n xs h = all_drop _ item_of n xs h
+  pub items_set : (on_list : EventName → EventName → Bool) (xs : List Entry) (i : ℕ) (d y : Entry) → (item_of y).event.name ≡ (item_of (get_or xs i d)).event.name → lasts (item_of y) ≡ lasts (item_of (get_or xs i d))
+      → AreListed on_list lasts (map item_of xs) → AreListed on_list lasts (map item_of (set xs i y))
+  items_set on_list xs i d y name same h = all_set (λ (j : Item). IsListed on_list j.event.name (lasts j)) item_of xs i d y (λ listed. subst (λ e. IsListed on_list e (lasts (item_of y))) (sym name) (subst (IsListed on_list (item_of (get_or xs i d)).event.name) (sym same) listed)) h
+
+  pub items_exchanged : (on_list : EventName → EventName → Bool) (n : ℕ) (xs : List Entry) → AreListed on_list lasts (map item_of xs) → AreListed on_list lasts (map item_of (exchanged n xs))
+  items_exchanged on_list n xs h = subst (AreListed on_list lasts) (sym (map-exchanged item_of n xs)) (all_exchanged _ n (map item_of xs) h)
+
+  pub items_left : (on_list : EventName → EventName → Bool) (n : ℕ) (xs : List Entry) → AreListed on_list lasts (map item_of xs) → AreListed on_list lasts (map item_of (drop n xs))
+  items_left on_list n xs h = all_drop _ item_of n xs h
+
+  -- those of settled entries and those behind them
+  pub items_parts : (on_list : EventName → EventName → Bool) (us vs : List Item) → AreListed on_list lasts (us ++ vs) → AreListed on_list lasts us × AreListed on_list lasts vs
+  items_parts on_list [] vs h = (tt, h)
+  items_parts on_list (u ∷ us) vs (h, hs) = let parts = items_parts on_list us vs hs in ((h, parts.0), parts.1)
+
+  pub items_behind : (on_list : EventName → EventName → Bool) (us vs ws : List Item) → (AreListed on_list lasts vs → AreListed on_list lasts ws) → AreListed on_list lasts (us ++ vs) → AreListed on_list lasts (us ++ ws)
+  items_behind on_list us vs ws f h = let parts = items_parts on_list us vs h in all_append _ us ws parts.0 (f parts.1)
+
+-- who wrote which cells over stays when records are exchanged with a state
+pub written_swapped : (live : Bool) (i : Item) (w : State cells) → written_by (swap_item live i w).0 ≡ written_by i
+written_swapped live i w = each i.kept w
+  where
+    each : (ps : Record cells) (v : State cells) → map {B = CellKey × Option ℕ} (λ r. (r.0, last_among i.lasts r.0)) (swap_record cells ps v) ≡ map {B = CellKey × Option ℕ} (λ r. (r.0, last_among i.lasts r.0)) ps
+    each [] v = refl
+    each (p ∷ ps) v = ap (λ l. (p.0, last_among i.lasts p.0) ∷ l) (each ps (hold cells v p.0 p.1))
 
 -- one more of the cells that were touched
-pub follows_more : (followers : Followers) (e : EventName) (xs : List Touched) (i : ℕ) (d : Touched) → i < length xs → Follows followers e (lasts_of (take i xs))
-    → ((w : EventName) → number_of (get_or xs i d).writer ≡ Some w.0 → may_follow followers w e ≡ true) → Follows followers e (lasts_of (take (i + 1) xs))
-follows_more followers e xs i d h before here =
-    subst (Follows followers e) (sym (ap lasts_of (take_more xs i d h) ∙ map-append last_of (take i xs) (get_or xs i d ∷ [])))
-    (follows_append followers e (lasts_of (take i xs)) (last_of (get_or xs i d)) before here)
+pub follows_more : (old new : EventName → EventName → Bool) (e : EventName) (xs : List Touched) (i : ℕ) (d : Touched) → i < length xs → Keeps old new → IsListed old e (lasts_of (take i xs))
+    → new (lister (last_of (get_or xs i d)).0 (last_of (get_or xs i d)).1) e ≡ true → IsListed new e (lasts_of (take (i + 1) xs))
+follows_more old new e xs i d h kept before here =
+    subst (IsListed new e) (sym (ap lasts_of (take_more xs i d h) ∙ map-append last_of (take i xs) (get_or xs i d ∷ [])))
+    (listed_append old new kept e (lasts_of (take i xs)) (last_of (get_or xs i d)) before here)
+
+-- and one more of those that were written
+pub inherits_more : (old new : EventName → EventName → Bool) (e : EventName) (lasts : List (CellKey × Option ℕ)) (xs : List CellRecord) (i : ℕ) (d : CellRecord) → i < length xs → Keeps old new
+    → IsListed old e (map (λ r. (r.0, last_among lasts r.0)) (kepts_of (take i xs)))
+    → new (lister (record_of (get_or xs i d)).0 (last_among lasts (record_of (get_or xs i d)).0)) e ≡ true
+    → IsListed new e (map (λ r. (r.0, last_among lasts r.0)) (kepts_of (take (i + 1) xs)))
+inherits_more old new e lasts xs i d h kept before here =
+    let pair : CellKey × (Option Content × Option ℕ) → CellKey × Option ℕ = λ r. (r.0, last_among lasts r.0) in
+    subst (IsListed new e)
+    (sym (ap (λ l. map pair (kepts_of l)) (take_more xs i d h) ∙ ap (map pair) (map-append kept_of (take i xs) (get_or xs i d ∷ [])) ∙ map-append pair (kepts_of (take i xs)) (kept_of (get_or xs i d) ∷ [])))
+    (listed_append old new kept e (map pair (kepts_of (take i xs))) (pair (kept_of (get_or xs i d))) before here)
 
 -- the list of one entry more was let go
 pub gone_more : (old new : Followers) (xs : List Entry) (i : ℕ) (d : Entry) → i < length xs → ((e : EventName) → IsLetGo old e → IsLetGo new e) → IsLetGo new (get_or xs i d).event.name

@@ -5,7 +5,7 @@ ghost use Rattle.ids.specs.declared.cells.CellKey.{CellKey};
 ghost use Rattle.journal_links.specs.Places.{place_of, ArePlaces};
 ghost use Rattle.journal.specs.Items.{Item, item_of, number_of};
 ghost use Rattle.journal.specs.Lines.{writer_of, wrote_cell};
-ghost use Rattle.journal.specs.Links.{AreFollowers, names_of, open_at};
+ghost use Rattle.journal.specs.Links.{AreFollowers, AreHeirs, names_of, open_at};
 ghost use Rattle.journal.specs.SettledView.{items_in};
 
 use crate::entry::{Entry, writer_among};
@@ -13,18 +13,21 @@ use crate::settled::Settled;
 use ids::cells::CellKey;
 use ids::names::EventName;
 use journal_links::followers::Followers;
+use journal_links::heirs::Heirs;
 use journal_links::places::Places;
 
 /// A journal, the oldest entry first: settled entries, which can no longer be taken back, and those behind them. It knows where the
-/// entry of each event stands, and who followed it.
+/// entry of each event stands, who followed it, and who wrote over what it left.
 #[derive(Clone, Copy)]
 pub struct Journal<'a> {
     pub settled: &'a [Settled],
     pub entries: &'a [Entry],
     pub places: &'a Places,
     pub followers: &'a Followers,
+    pub heirs: &'a Heirs,
     pub ghost placed: { ∥ ArePlaces places.now (names_of (items_in settled.now entries.now)) ∥₁ },
     pub ghost followed: { ∥ AreFollowers followers.now (map item_of entries.now) ∥₁ },
+    pub ghost inherited: { ∥ AreHeirs heirs.now (items_in settled.now entries.now) ∥₁ },
 }
 
 impl<'a> Journal<'a> {

@@ -1,6 +1,6 @@
 -- Who followed each event.
 use Rattle.std.specs.Prelude.{◌≡◌, ℕ, ◌<◌, ◌==◌, Bool, true, List, [], Option, Some, None, IfSome, length, slice_get}
-use Rattle.std.specs.List.{list_any, AllByRecursion}
+use Rattle.std.specs.List.{list_any}
 use Rattle.std.specs.Option.{option_map_or}
 use Rattle.std.specs.declared.alloc.Global.{Global}
 use Rattle.std.specs.declared.vec.Vec.{Vec}
@@ -32,7 +32,3 @@ IsLetGo followers e = IfSome (followers_of followers e) (λ es. es ≡ [])
 -- a follower of an event can be listed
 abbrev pub HasRoom : Followers → EventName → Type 0
 HasRoom followers e = e.0 < length followers.by_name.items
-
--- an event is on the list of each of these last writers of cells, where the list is kept
-abbrev pub Follows : {K : Type 0} → Followers → EventName → List (K × Option ℕ) → Type 0
-Follows followers e lasts = AllByRecursion (λ p. (w : EventName) → p.1 ≡ Some w.0 → may_follow followers w e ≡ true) lasts

@@ -14,7 +14,7 @@ pub struct Followers {
 }
 
 /// Puts a name on a list, if it does not end with it.
-fn list(names: &mut Vec<EventName>, name: EventName) -> Result<(), AllocError>
+pub(crate) fn list(names: &mut Vec<EventName>, name: EventName) -> Result<(), AllocError>
     ensures ok { OnOk result (list_any (λ f. f.0 == name.0) names.new.items ≡ true) }
     ensures kept { (e : EventName) → list_any (λ f. f.0 == e.0) names.old.items ≡ true → list_any (λ f. f.0 == e.0) names.new.items ≡ true }
 {

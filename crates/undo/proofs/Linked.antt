@@ -1,21 +1,25 @@
--- Places and followers stay right through the calls of a core.
+-- Places, followers and heirs stay right through the calls of a core.
 use Rattle.std.proofs.Common.{◌≡◌, ◌∙◌, ℕ, zero, suc, ◌+◌, ◌<◌, ◌==◌, true, cond, List, [], ◌∷◌, ◌++◌, Option, Some, None, length, map, set, get_or, drop, slice_get, refl, sym, ap, ap₂, subst, arith}
 use Rattle.std.proofs.Math.Bool.{Bool-set}
 use Rattle.std.proofs.Math.Logic.{∥∥₁_elim, ∥∥₁_map}
 use Rattle.std.proofs.lemmas.List.{length-map}
 use Rattle.ids.specs.declared.names.EventName.{EventName}
+use Rattle.ids.specs.declared.cells.CellKey.{CellKey}
 use Rattle.journal_links.specs.Places.{place_of, HasRoom, ArePlaces}
-use Rattle.journal_links.specs.Followers.{Follows}
+use Rattle.journal_links.specs.Followers.{may_follow}
+use Rattle.journal_links.specs.Heirs.{is_heir}
+use Rattle.journal_links.specs.declared.heirs.Heirs.{Heirs}
 use Rattle.journal_links.specs.declared.places.Places.{Places}
 use Rattle.journal_links.specs.declared.followers.Followers.{Followers}
 use Rattle.journal_links.proofs.Placing.{places_none, places_same, places_more, places_swapped, room_of}
 use Rattle.journal_links.proofs.Following.{Keeps}
-use Rattle.journal.specs.Items.{item_of, exchanged}
-use Rattle.journal.specs.Links.{AreFollowers, names_of}
+use Rattle.journal.specs.Items.{Item, item_of, exchanged}
+use Rattle.journal.specs.Links.{AreFollowers, AreHeirs, AreListed, IsListed, names_of}
+use Rattle.journal.specs.Settled.{written_by}
 use Rattle.journal.specs.SettledView.{settled_item, items_in}
 use Rattle.journal.specs.declared.entry.Entry.{Entry}
 use Rattle.journal.specs.declared.settled.Settled.{Settled}
-use Rattle.journal.proofs.Linked.{names_set, names_more, names_count, names_swapped, followers_kept, followers_more, followers_set, followers_exchanged, followers_left}
+use Rattle.journal.proofs.Linked.{names_set, names_more, names_count, names_swapped, items_kept, items_more, items_set, items_exchanged, items_left, items_behind}
 use Rattle.journal.proofs.Neighbouring.{map-exchanged}
 use Rattle.journal.proofs.Settling.{name_behind}
 use Rattle.undo.proofs.Behind.{turn_behind}
@@ -28,6 +32,14 @@ Placed places ss xs = ∥ ArePlaces places (names_of (items_in ss xs)) ∥₁
 abbrev pub Followed : Followers → List Entry → Type 0
 Followed followers xs = ∥ AreFollowers followers (map item_of xs) ∥₁
 
+-- and their heirs
+abbrev pub Inherited : Heirs → List Settled → List Entry → Type 0
+Inherited heirs ss xs = ∥ AreHeirs heirs (items_in ss xs) ∥₁
+
+-- the cells that an item touched
+abbrev lasts_in : Item → List (CellKey × Option ℕ)
+lasts_in i = i.lasts
+
 pub placed_begin : (places : Places) (ss : List Settled) (xs : List Entry) → ss ≡ [] → xs ≡ [] → ((e : EventName) → place_of places e ≡ None) → Placed places ss xs
 placed_begin places ss xs s x none = subst (λ ns. ∥ ArePlaces places ns ∥₁) (sym (ap₂ (λ ts ys. names_of (items_in ts ys)) s x)) ∣ places_none places none ∣₁
 
@@ -37,8 +49,14 @@ followed_begin followers xs x = subst (λ is. ∥ AreFollowers followers is ∥�
 pub placed_same : (old new : Places) (ss : List Settled) (xs : List Entry) → ((e : EventName) → place_of new e ≡ place_of old e) → Placed old ss xs → Placed new ss xs
 placed_same old new ss xs same h = ∥∥₁_map h (places_same old new (names_of (items_in ss xs)) same)
 
-pub followed_kept : (old new : Followers) (xs : List Entry) → Keeps old new → Followed old xs → Followed new xs
-followed_kept old new xs kept h = ∥∥₁_map h (followers_kept old new kept (map item_of xs))
+pub followed_kept : (old new : Followers) (xs : List Entry) → Keeps (may_follow old) (may_follow new) → Followed old xs → Followed new xs
+followed_kept old new xs kept h = ∥∥₁_map h (items_kept lasts_in (may_follow old) (may_follow new) kept (map item_of xs))
+
+pub inherited_begin : (heirs : Heirs) (ss : List Settled) (xs : List Entry) → ss ≡ [] → xs ≡ [] → Inherited heirs ss xs
+inherited_begin heirs ss xs s x = subst (λ is. ∥ AreHeirs heirs is ∥₁) (sym (ap₂ items_in s x)) ∣ tt ∣₁
+
+pub inherited_kept : (old new : Heirs) (ss : List Settled) (xs : List Entry) → Keeps (is_heir old) (is_heir new) → Inherited old ss xs → Inherited new ss xs
+inherited_kept old new ss xs kept h = ∥∥₁_map h (items_kept written_by (is_heir old) (is_heir new) kept (items_in ss xs))
 
 -- an entry is exchanged with the cells
 pub placed_set : (places : Places) (ss : List Settled) (xs : List Entry) (i : ℕ) (d y : Entry) → (item_of y).event.name ≡ (item_of (get_or xs i d)).event.name → Placed places ss xs → Placed places ss (set xs i y)
@@ -46,7 +64,12 @@ placed_set places ss xs i d y name h = subst (λ ns. ∥ ArePlaces places ns ∥
 
 pub followed_set : (followers : Followers) (xs : List Entry) (i : ℕ) (d y : Entry) → (item_of y).event.name ≡ (item_of (get_or xs i d)).event.name → (item_of y).lasts ≡ (item_of (get_or xs i d)).lasts
     → Followed followers xs → Followed followers (set xs i y)
-followed_set followers xs i d y name lasts h = ∥∥₁_map h (followers_set followers xs i d y name lasts)
+followed_set followers xs i d y name lasts h = ∥∥₁_map h (items_set lasts_in (may_follow followers) xs i d y name lasts)
+
+pub inherited_set : (heirs : Heirs) (ss : List Settled) (xs : List Entry) (i : ℕ) (d y : Entry) → (item_of y).event.name ≡ (item_of (get_or xs i d)).event.name → written_by (item_of y) ≡ written_by (item_of (get_or xs i d))
+    → Inherited heirs ss xs → Inherited heirs ss (set xs i y)
+inherited_set heirs ss xs i d y name same h =
+    ∥∥₁_map h (items_behind written_by (is_heir heirs) (map settled_item ss) (map item_of xs) (map item_of (set xs i y)) (items_set written_by (is_heir heirs) xs i d y name same))
 
 -- an entry comes
 pub placed_more : (old new : Places) (ss : List Settled) (xs : List Entry) (x : Entry) (n : ℕ) → n ≡ length ss + length xs
@@ -55,8 +78,13 @@ placed_more old new ss xs x n at put h =
     subst (λ ns. ∥ ArePlaces new ns ∥₁) (sym (names_more ss xs x))
     (∥∥₁_map h (places_more old new (names_of (items_in ss xs)) x.event.name n (at ∙ names_count ss xs) put))
 
-pub followed_more : (old new : Followers) (xs : List Entry) (x : Entry) → Keeps old new → Follows new (item_of x).event.name (item_of x).lasts → Followed old xs → Followed new (xs ++ x ∷ [])
-followed_more old new xs x kept follows h = ∥∥₁_map h (λ are. followers_more new xs x (followers_kept old new kept (map item_of xs) are) follows)
+pub followed_more : (old new : Followers) (xs : List Entry) (x : Entry) → Keeps (may_follow old) (may_follow new) → IsListed (may_follow new) (item_of x).event.name (item_of x).lasts → Followed old xs → Followed new (xs ++ x ∷ [])
+followed_more old new xs x kept listed h = ∥∥₁_map h (λ are. items_more lasts_in (may_follow new) xs x (items_kept lasts_in (may_follow old) (may_follow new) kept (map item_of xs) are) listed)
+
+pub inherited_more : (old new : Heirs) (ss : List Settled) (xs : List Entry) (x : Entry) → Keeps (is_heir old) (is_heir new) → IsListed (is_heir new) (item_of x).event.name (written_by (item_of x)) → Inherited old ss xs → Inherited new ss (xs ++ x ∷ [])
+inherited_more old new ss xs x kept listed h =
+    ∥∥₁_map h (λ are. items_behind written_by (is_heir new) (map settled_item ss) (map item_of xs) (map item_of (xs ++ x ∷ []))
+    (λ behind. items_more written_by (is_heir new) xs x behind listed) (items_kept written_by (is_heir old) (is_heir new) kept (items_in ss xs) are))
 
 -- neighbours change places
 names_turned : (ss : List Settled) (xs : List Entry) (p i : ℕ) → p ≡ length ss + i → names_of (items_in ss (exchanged i xs)) ≡ exchanged p (names_of (items_in ss xs))
@@ -81,15 +109,22 @@ placed_turned old mid new ss xs p i d f a b at h is_a is_b first second placed =
     (∥∥₁_map placed (places_swapped old mid new names (exchanged p names) p (p + 1) a b (names_swapped names p a b at_a at_b) first second))
 
 pub followed_turned : (followers : Followers) (i : ℕ) (xs : List Entry) → Followed followers xs → Followed followers (exchanged i xs)
-followed_turned followers i xs h = ∥∥₁_map h (followers_exchanged followers i xs)
+followed_turned followers i xs h = ∥∥₁_map h (items_exchanged lasts_in (may_follow followers) i xs)
+
+pub inherited_turned : (heirs : Heirs) (ss : List Settled) (i : ℕ) (xs : List Entry) → Inherited heirs ss xs → Inherited heirs ss (exchanged i xs)
+inherited_turned heirs ss i xs h =
+    ∥∥₁_map h (items_behind written_by (is_heir heirs) (map settled_item ss) (map item_of xs) (map item_of (exchanged i xs)) (items_exchanged written_by (is_heir heirs) i xs))
 
 -- the first entries are settled
 pub placed_settled : (places : Places) (ss ts : List Settled) (xs ys : List Entry) → items_in ts ys ≡ items_in ss xs → Placed places ss xs → Placed places ts ys
 placed_settled places ss ts xs ys is h = subst (λ its. ∥ ArePlaces places (names_of its) ∥₁) (sym is) h
 
-pub followed_settled : (old new : Followers) (n : ℕ) (xs ys : List Entry) → ys ≡ drop n xs → Keeps old new → Followed old xs → Followed new ys
+pub inherited_settled : (heirs : Heirs) (ss ts : List Settled) (xs ys : List Entry) → items_in ts ys ≡ items_in ss xs → Inherited heirs ss xs → Inherited heirs ts ys
+inherited_settled heirs ss ts xs ys is h = subst (λ its. ∥ AreHeirs heirs its ∥₁) (sym is) h
+
+pub followed_settled : (old new : Followers) (n : ℕ) (xs ys : List Entry) → ys ≡ drop n xs → Keeps (may_follow old) (may_follow new) → Followed old xs → Followed new ys
 followed_settled old new n xs ys is kept h =
-    subst (Followed new) (sym is) (∥∥₁_map h (λ are. followers_left new n xs (followers_kept old new kept (map item_of xs) are)))
+    subst (Followed new) (sym is) (∥∥₁_map h (λ are. items_left lasts_in (may_follow new) n xs (items_kept lasts_in (may_follow old) (may_follow new) kept (map item_of xs) are)))
 
 pub first_turned : {A : Type 0} (xs : List A) (i : ℕ) (d : A) → i + 1 < length xs → get_or (exchanged i xs) i d ≡ get_or xs (i + 1) d
 first_turned [] i d h = absurd (omega arith)

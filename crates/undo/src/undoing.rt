@@ -15,7 +15,7 @@ ghost use Rattle.world_cells.specs.View.{RisesBy};
 ghost use Rattle.world_cells.specs.World.{vat_state};
 ghost use Rattle.world_cells.specs.Theory.{cells, state_of_world, kepts_of};
 ghost use Rattle.journal.specs.Items.{item_of, is_live, swap_item, entered, keys_at, all_ready, records_at, may_exchange, neighbours, exchanged};
-ghost use Rattle.journal.specs.Links.{AreFollowers, names_of};
+ghost use Rattle.journal.specs.Links.{AreFollowers, AreHeirs, names_of};
 ghost use Rattle.journal.specs.SettledView.{items_in};
 ghost use Rattle.undo.specs.OpenView.{opens};
 
@@ -27,9 +27,10 @@ use ids::cells::CellKey;
 use ids::names::VatNo;
 use journal::entry::{Entry, Mark, may_exchange, with_writers};
 use journal::journal::Journal;
-use journal::linking::{let_go, list_follower};
+use journal::linking::{let_go, list_follower, list_heir};
 use journal::settled::Settled;
 use journal_links::followers::Followers;
+use journal_links::heirs::Heirs;
 use journal_links::places::Places;
 use std::alloc::{AllocError, Global};
 use std::sync::Arc;
@@ -46,15 +47,17 @@ pub struct Deed {
 }
 
 /// The cells, and an entry for each event that wrote them, the oldest first: those that are settled, and those behind them. By their
-/// names it knows where each stands, and who followed those that are not settled.
+/// names it knows where each stands, who followed those that are not settled, and who wrote over what each left.
 pub struct Core {
     world: World,
     settled: Vec<Settled>,
     entries: OpenEntries,
     places: Places,
     followers: Followers,
+    heirs: Heirs,
     ghost placed: { ∥ ArePlaces places (names_of (items_in settled.items (opens entries))) ∥₁ },
     ghost followed: { ∥ AreFollowers followers (map item_of (opens entries)) ∥₁ },
+    ghost inherited: { ∥ AreHeirs heirs (items_in settled.items (opens entries)) ∥₁ },
 }
 
 // By hand, so that what drops one elsewhere calls this and is not proved anew for all that it holds.
@@ -66,6 +69,7 @@ impl Drop for Core {
             entries: _,
             places: _,
             followers: _,
+            heirs: _,
         } = self;
     }
 }
@@ -88,6 +92,7 @@ impl Core {
             entries: OpenEntries::new(alloc),
             places: Places::new(alloc),
             followers: Followers::new(alloc),
+            heirs: Heirs::new(alloc),
         }
     }
 
@@ -115,6 +120,7 @@ impl Core {
             entries: self.entries.as_slice(),
             places: &self.places,
             followers: &self.followers,
+            heirs: &self.heirs,
         }
     }
 
@@ -235,6 +241,7 @@ impl Core {
         let name = deed.event.name;
         self.places.make_room(name)?;
         list_follower(&mut self.followers, name, &touched)?;
+        list_heir(&mut self.heirs, name, &touched, &records)?;
         let position = self.settled.len() + self.entries.len();
         self.entries.push(Entry {
             event: deed.event,

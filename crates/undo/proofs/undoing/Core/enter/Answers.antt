@@ -18,17 +18,21 @@ use Rattle.undo.proofs.Looping.{both_true}
 use Rattle.undo.proofs.Positions.{on_err, entered_is, ready_last, count_last}
 use Rattle.ids.specs.declared.names.EventName.{EventName}
 use Rattle.journal_links.specs.Places.{place_of, ArePlaces}
-use Rattle.journal_links.specs.Followers.{Follows}
+use Rattle.journal_links.specs.Followers.{may_follow}
+use Rattle.journal_links.specs.Heirs.{is_heir}
 use Rattle.journal.specs.Items.{lasts_of}
-use Rattle.journal.specs.Links.{AreFollowers, names_of}
+use Rattle.journal.specs.Lines.{last_among}
+use Rattle.journal.specs.Links.{AreFollowers, AreHeirs, IsListed, names_of}
+use Rattle.journal.specs.Settled.{written_by}
 use Rattle.journal.specs.declared.entry.Touched.{Touched}
-use Rattle.undo.proofs.Linked.{Placed, Followed, placed_same, placed_more, followed_kept, followed_more}
+use Rattle.world_cells.specs.declared.record.CellRecord.{CellRecord}
+use Rattle.undo.proofs.Linked.{Placed, Followed, Inherited, placed_same, placed_more, followed_kept, followed_more, inherited_kept, inherited_more}
 use Rattle.undo.proofs.undoing.Core.enter.Goals as goal
 
 pub invariant_of-self-in-Break-branch-3 : goal.invariant_of-self-in-Break-branch-3
 invariant_of-self-in-Break-branch-3 c =
     let b = c.args.self.now in
-    record { placed = placed_same b.places c.make_room.new.self b.settled.items (opens b.entries) c.make_room.ensures.same b.placed; followed = b.followed }
+    record { placed = placed_same b.places c.make_room.new.self b.settled.items (opens b.entries) c.make_room.ensures.same b.placed; followed = b.followed; inherited = b.inherited }
 
 pub invariant_of-self-in-Break-branch-4 : goal.invariant_of-self-in-Break-branch-4
 invariant_of-self-in-Break-branch-4 c =
@@ -36,14 +40,25 @@ invariant_of-self-in-Break-branch-4 c =
     record {
       placed = placed_same b.places c.make_room.new.self b.settled.items (opens b.entries) c.make_room.ensures.same b.placed;
       followed = followed_kept b.followers c.list_follower.new.followers (opens b.entries) c.list_follower.ensures.kept b.followed;
+      inherited = b.inherited;
     }
 
 pub invariant_of-self-in-Break-branch-5 : goal.invariant_of-self-in-Break-branch-5
 invariant_of-self-in-Break-branch-5 c =
     let b = c.args.self.now in
     record {
+      placed = placed_same b.places c.make_room.new.self b.settled.items (opens b.entries) c.make_room.ensures.same b.placed;
+      followed = followed_kept b.followers c.list_follower.new.followers (opens b.entries) c.list_follower.ensures.kept b.followed;
+      inherited = inherited_kept b.heirs c.list_heir.new.heirs b.settled.items (opens b.entries) c.list_heir.ensures.kept b.inherited;
+    }
+
+pub invariant_of-self-in-Break-branch-6 : goal.invariant_of-self-in-Break-branch-6
+invariant_of-self-in-Break-branch-6 c =
+    let b = c.args.self.now in
+    record {
       placed = subst (Placed c.make_room.new.self b.settled.items) (sym c.in_err-push.ensures.items) (placed_same b.places c.make_room.new.self b.settled.items (opens b.entries) c.make_room.ensures.same b.placed);
       followed = subst (Followed c.list_follower.new.followers) (sym c.in_err-push.ensures.items) (followed_kept b.followers c.list_follower.new.followers (opens b.entries) c.list_follower.ensures.kept b.followed);
+      inherited = subst (Inherited c.list_heir.new.heirs b.settled.items) (sym c.in_err-push.ensures.items) (inherited_kept b.heirs c.list_heir.new.heirs b.settled.items (opens b.entries) c.list_heir.ensures.kept b.inherited);
     }
 
 pub invariant_of-self-2 : goal.invariant_of-self-2
@@ -54,10 +69,14 @@ invariant_of-self-2 c =
     let e : Entry = record { event = c.args.deed.event; notes = c.args.deed.notes; seat = c.args.deed.seat; mark = mark.Live; touched = c.in_ok-touched.touched; records = c.args.records } in
     let at : c.len.result + c.len-2.result ≡ length ss + length xs = omega arith in
     let put = λ (k : EventName). c.put.ensures.put k ∙ ap (λ o. cond (k.0 == e.event.name.0) (Some (c.len.result + c.len-2.result)) o) (c.make_room.ensures.same k) in
-    let follows : Follows c.list_follower.new.followers e.event.name (lasts_of e.touched.items) = subst (λ (ts : List Touched). Follows c.list_follower.new.followers e.event.name (lasts_of ts)) c.deref-2.ensures.value c.in_ok-list_follower.ensures.ok in
+    let follows : IsListed (may_follow c.list_follower.new.followers) e.event.name (lasts_of e.touched.items) = subst (λ (ts : List Touched). IsListed (may_follow c.list_follower.new.followers) e.event.name (lasts_of ts)) c.deref-2.ensures.value c.in_ok-list_follower.ensures.ok in
+    let inherits : IsListed (is_heir c.list_heir.new.heirs) e.event.name (written_by (item_of e)) =
+    subst (λ (rs : List CellRecord). IsListed (is_heir c.list_heir.new.heirs) e.event.name (map (λ r. (r.0, last_among (lasts_of e.touched.items) r.0)) (kepts_of rs))) c.deref-4.ensures.value
+    (subst (λ (ts : List Touched). IsListed (is_heir c.list_heir.new.heirs) e.event.name (map (λ r. (r.0, last_among (lasts_of ts) r.0)) (kepts_of c.deref-4.result.now))) c.deref-3.ensures.value c.in_ok-list_heir.ensures.ok) in
     record {
       placed = subst (Placed c.put.new.self ss) (sym c.in_ok-push.ensures.items) (placed_more b.places c.put.new.self ss xs e (c.len.result + c.len-2.result) at put b.placed);
       followed = subst (Followed c.list_follower.new.followers) (sym c.in_ok-push.ensures.items) (followed_more b.followers c.list_follower.new.followers xs e c.list_follower.ensures.kept follows b.followed);
+      inherited = subst (Inherited c.list_heir.new.heirs ss) (sym c.in_ok-push.ensures.items) (inherited_more b.heirs c.list_heir.new.heirs ss xs e c.list_heir.ensures.kept inherits b.inherited);
     }
 
 pub returns-in_err-make_rooms-clause-err : goal.returns-in_err-make_rooms-clause-err
@@ -77,6 +96,11 @@ returns-in_err-make_room-clause-err c =
 
 pub returns-in_err-list_follower-clause-err : goal.returns-in_err-list_follower-clause-err
 returns-in_err-list_follower-clause-err c =
+    on_err (◌≡◌ {A = List Item × State cells} (items_of c.args.self.now, state_of_world c.make_rooms.new.world) (shown c.args.self.now)) _
+    (λ j. (items_of c.args.self.now, λ k. numbered (c.make_rooms.ensures.seen j k)))
+
+pub returns-in_err-list_heir-clause-err : goal.returns-in_err-list_heir-clause-err
+returns-in_err-list_heir-clause-err c =
     on_err (◌≡◌ {A = List Item × State cells} (items_of c.args.self.now, state_of_world c.make_rooms.new.world) (shown c.args.self.now)) _
     (λ j. (items_of c.args.self.now, λ k. numbered (c.make_rooms.ensures.seen j k)))
 

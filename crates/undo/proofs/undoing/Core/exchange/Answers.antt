@@ -9,7 +9,7 @@ use Rattle.journal.specs.Journals.{settled_item}
 use Rattle.journal.proofs.Neighbouring.{map-exchanged}
 use Rattle.undo.proofs.Behind.{test_behind, turn_behind}
 use Rattle.undo.proofs.Exchanging.{may_at}
-use Rattle.undo.proofs.Linked.{Placed, Followed, placed_turned, followed_turned, first_turned, second_turned, room_there}
+use Rattle.undo.proofs.Linked.{Placed, Followed, Inherited, placed_turned, followed_turned, inherited_turned, first_turned, second_turned, room_there}
 use Rattle.undo.proofs.undoing.Core.exchange.Goals as goal
 
 pub put-requires : goal.put-requires
@@ -64,6 +64,7 @@ invariant_of-self-2 c =
           (placed_turned b.places c.put.new.self c.put-2.new.self ss xs c.args.position place second first second.event.name first.event.name at h
           (ap (λ (x : Entry). x.event.name) is_second) (ap (λ (x : Entry). x.event.name) is_first) c.put.ensures.put c.put-2.ensures.put b.placed);
       followed = subst (Followed b.followers) (sym turned) (followed_turned b.followers place xs b.followed);
+      inherited = subst (Inherited b.heirs ss) (sym turned) (inherited_turned b.heirs ss place xs b.inherited);
     }
 
 pub returns-then-not-may_exchange-clause-done : goal.returns-then-not-may_exchange-clause-done

@@ -7,7 +7,7 @@ use Rattle.journal.specs.declared.entry.Entry.{Entry}
 use Rattle.undo.specs.OpenView.{opens}
 use Rattle.undo.specs.CoreView.{state_of}
 use Rattle.undo.proofs.Settling.{map_take, all_stay, all_mapped}
-use Rattle.undo.proofs.Linked.{Placed, placed_settled, followed_settled}
+use Rattle.undo.proofs.Linked.{Placed, Inherited, placed_settled, followed_settled, inherited_settled}
 use Rattle.undo.proofs.undoing.Core.settle.Goals as goal
 
 pub invariant_of-self-in-Break-branch-2 : goal.invariant_of-self-in-Break-branch-2
@@ -16,6 +16,7 @@ invariant_of-self-in-Break-branch-2 c =
     record {
       placed = subst (λ ss. Placed b.places ss (opens b.entries)) (sym c.in_err-append.ensures.items) b.placed;
       followed = b.followed;
+      inherited = subst (λ ss. Inherited b.heirs ss (opens b.entries)) (sym c.in_err-append.ensures.items) b.inherited;
     }
 
 pub invariant_of-self-2 : goal.invariant_of-self-2
@@ -25,9 +26,10 @@ invariant_of-self-2 c =
     let n = c.args.count in
     let left : opens c.let_go-2.new.self ≡ drop n xs = c.let_go-2.ensures in
     let new : map settled_item c.in_ok-settled.settled.items ≡ map item_of (take n xs) = c.in_ok-settled.ensures ∙ ap (λ es. map item_of (take n es)) c.as_slice.ensures in
+    let stay = ap₂ (λ ss es. map settled_item ss ++ map item_of es) c.in_ok-append.ensures.items left ∙ all_stay settled_item item_of b.settled.items c.in_ok-settled.settled.items n xs new in
     record {
-      placed = placed_settled b.places b.settled.items c.append.new.self.items xs (opens c.let_go-2.new.self)
-          (ap₂ (λ ss es. map settled_item ss ++ map item_of es) c.in_ok-append.ensures.items left ∙ all_stay settled_item item_of b.settled.items c.in_ok-settled.settled.items n xs new) b.placed;
+      placed = placed_settled b.places b.settled.items c.append.new.self.items xs (opens c.let_go-2.new.self) stay b.placed;
+      inherited = inherited_settled b.heirs b.settled.items c.append.new.self.items xs (opens c.let_go-2.new.self) stay b.inherited;
       followed = followed_settled b.followers c.let_go.new.followers n xs (opens c.let_go-2.new.self) left c.let_go.ensures.kept b.followed;
     }
 

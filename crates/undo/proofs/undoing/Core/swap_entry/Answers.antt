@@ -9,7 +9,9 @@ use Rattle.undo.specs.OpenView.{opens}
 use Rattle.undo.specs.CoreView.{ready_of, swaps_of}
 use Rattle.undo.proofs.Behind.{step_behind, ready_behind, count_behind, keys_stay_behind}
 use Rattle.undo.proofs.Entries.{stepped, ready_within, keys_stay, keys_after}
-use Rattle.undo.proofs.Linked.{Placed, Followed, placed_set, followed_set}
+use Rattle.journal.specs.Settled.{written_by}
+use Rattle.journal.proofs.Linked.{written_swapped}
+use Rattle.undo.proofs.Linked.{Placed, Followed, Inherited, placed_set, followed_set, inherited_set}
 use Rattle.undo.proofs.undoing.Core.swap_entry.Goals as goal
 
 pub invariant_of-self : goal.invariant_of-self
@@ -23,6 +25,8 @@ invariant_of-self c =
     record {
       placed = subst (Placed b.places b.settled.items) (sym c.swap.ensures.entry.put) (placed_set b.places b.settled.items xs place y y name b.placed);
       followed = subst (Followed b.followers) (sym c.swap.ensures.entry.put) (followed_set b.followers xs place y y name (ap (λ (r : Item × State cells). r.0.lasts) same) b.followed);
+      inherited = subst (Inherited b.heirs b.settled.items) (sym c.swap.ensures.entry.put) (inherited_set b.heirs b.settled.items xs place y y name
+          (ap (λ (r : Item × State cells). written_by r.0) same ∙ written_swapped (is_live c.args.mark) (item_of (get_or xs place y)) (state_of_world b.world)) b.inherited);
     }
 
 pub swap-requires : goal.swap-requires
