@@ -7,6 +7,7 @@ ghost use Rattle.std.specs.BTreeSet.{contains, IsOrdered};
 ghost use Rattle.ids.specs.Cells.{message_cmp, promise_cmp, vat_cmp};
 ghost use Rattle.ids.specs.declared.names.VatNo.{VatNo};
 ghost use Rattle.ids.specs.declared.names.MsgId.{MsgId};
+ghost use Rattle.ids.specs.declared.cells.CellKey.TheVariants as cell;
 ghost use Rattle.heap.specs.State.{viewed, view_cell};
 ghost use Rattle.heap.specs.View.{state_of, view_of};
 ghost use Rattle.world_cells.specs.View.{world_of};
@@ -114,24 +115,45 @@ impl Agenda {
         ensures { OnOk result (NotesCell (world_of world.now) key.now self.old self.new) }
     {
         match key {
-            CellKey::Msg(name) => {
-                self.wake(alloc, world, Cue::Message(*name))?;
-                self.place(alloc, world, *name)
-            }
-            CellKey::View(vat, promise) => {
-                self.wake(alloc, world, Cue::View(*vat, *promise))?;
-                self.note_view(world, *vat, *promise)
-            }
-            CellKey::Board(promise) => {
-                self.wake(alloc, world, Cue::Board(*promise))?;
-                self.note_publication(alloc, world, *promise)
-            }
+            CellKey::Msg(name) => self.note_message(alloc, world, *name),
+            CellKey::View(vat, promise) => self.note_known(alloc, world, *vat, *promise),
+            CellKey::Board(promise) => self.note_board(alloc, world, *promise),
             CellKey::Name(_)
             | CellKey::Slot(_)
             | CellKey::Object(_)
             | CellKey::Top(_, _)
             | CellKey::Fence(_, _) => Ok(()),
         }
+    }
+
+    /// Notes how a message waits, and anew how those wait that come after it.
+    fn note_message(&mut self, alloc: Global, world: &World, name: MsgId) -> Result<(), AllocError>
+        ensures { OnOk result (NotesCell (world_of world.now) (cell.Msg name) self.old self.new) }
+    {
+        self.wake(alloc, world, Cue::Message(name))?;
+        self.place(alloc, world, name)
+    }
+
+    /// Notes what a vat knows of a promise, and anew how those wait that hang on it.
+    fn note_known(
+        &mut self,
+        alloc: Global,
+        world: &World,
+        vat: VatNo,
+        promise: PromId,
+    ) -> Result<(), AllocError>
+        ensures { OnOk result (NotesCell (world_of world.now) (cell.View vat promise) self.old self.new) }
+    {
+        self.wake(alloc, world, Cue::View(vat, promise))?;
+        self.note_view(world, vat, promise)
+    }
+
+    /// Notes what a promise was published as, and anew how those wait that hang on it.
+    fn note_board(&mut self, alloc: Global, world: &World, promise: PromId) -> Result<(), AllocError>
+        ensures { OnOk result (NotesCell (world_of world.now) (cell.Board promise) self.old self.new) }
+    {
+        self.wake(alloc, world, Cue::Board(promise))?;
+        self.note_publication(alloc, world, promise)
     }
 
     /// Notes of all messages how they wait.

@@ -1,6 +1,7 @@
 // How messages wait, and the cells that tell it.
-ghost use Rattle.std.specs.Prelude.{◌≡◌, ◌++◌, [], map, Some, is_none, IfOk, OnOk};
+ghost use Rattle.std.specs.Prelude.{◌≡◌, ◌++◌, [], map, option_map, Some, is_none, IfOk, OnOk};
 ghost use Rattle.values.specs.View.{val_of};
+ghost use Rattle.heap.specs.View.{state_of};
 ghost use Rattle.refs.specs.Walks.{walked};
 ghost use Rattle.sends.specs.Playing.{views_in};
 ghost use Rattle.post.specs.DeliveryView.{delivery_of};
@@ -17,7 +18,7 @@ use crate::waiting::Waits;
 use event::forwarding::onward;
 use event::ready::{Delay, check_ready};
 use event::walks::{Walked, awaited_along, walk};
-use heap::state::View;
+use heap::state::{VatState, View};
 use ids::names::{MsgId, PromId, VatNo};
 use post::delivery::Delivery;
 use post::message::{Message, Place};
@@ -227,12 +228,19 @@ impl<'a> Resolve for Views<'a> {
 
     fn resolution(&self, promise: PromId) -> Option<&Value> {
         match self.world.home(self.vat) {
-            Some(state) => match state.views.get(&promise) {
-                Some(View::Resolved(value)) => Some(value),
-                _ => None,
-            },
+            Some(state) => known_in(state, promise),
             None => None,
         }
+    }
+}
+
+/// What a vat's state knows a promise resolved to.
+fn known_in(state: &VatState, promise: PromId) -> Option<&Value>
+    ensures { option_map (λ v. val_of v.now) result ≡ views_in (state_of state.now) promise }
+{
+    match state.views.get(&promise) {
+        Some(View::Resolved(value)) => Some(value),
+        _ => None,
     }
 }
 

@@ -6,7 +6,7 @@ use Rattle.book_agenda.proofs.Ranges.{no_message}
 use Rattle.book_agenda.proofs.agenda.keep_each.Goals as goal
 
 pub loop-cue-init : goal.loop-cue-init
-loop-cue-init c = keeps_none _ _ _
+loop-cue-init c = keeps_none c.args.message c.args.stays _
 
 pub loop-cue-preserved : goal.loop-cue-preserved
 loop-cue-preserved c =

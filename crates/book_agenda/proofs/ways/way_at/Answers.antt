@@ -15,7 +15,7 @@ returns-then-stays c =
     let v = c.args.vat in
     let g = message_of c.args.message.now in
     let here : stays v g.delivery ≡ true = search rules in
-    let names = c.names.ensures.names ∙ ap (λ (s : Sent). s.after) c.deref-2.ensures in
+    let names = c.names.ensures.names ∙ ap (λ (s : Sent). s.after) c.deref-then-stays.ensures in
     record {
       waits = ok_follows c.way_behind.result _ _ c.way_behind.ensures.waits (λ r h. h ∙ ap (λ (ns : List MsgId). Some (behind w v ns)) names ∙ ap (λ x. Some x) (sym (settled_way w v g here)));
       cues = ok_follows c.way_behind.result _ _ c.way_behind.ensures.cues (λ r h. h ∙ ap (λ (ns : List MsgId). map cue.Message ns) names ∙ sym (settled_cues w v g here));

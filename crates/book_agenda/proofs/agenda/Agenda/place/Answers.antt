@@ -5,4 +5,4 @@ use Rattle.book_agenda.proofs.Noting.{placed}
 use Rattle.book_agenda.proofs.agenda.Agenda.place.Goals as goal
 
 pub returns : goal.returns
-returns c = ok_follows c.put.result _ _ c.put.ensures (λ _ p. placed (world_of c.args.world.now) c.args.name _ _ _ _ _ c.in_ok-way_of.ensures.waits c.in_ok-way_of.ensures.cues c.in_ok-watch.ensures p refl refl refl refl)
+returns c = ok_follows c.put.result _ _ c.put.ensures (λ _ p. placed (world_of c.args.world.now) c.args.name _ _ _ _ _ c.in_ok-waits.ensures.waits c.in_ok-waits.ensures.cues c.in_ok-watch.ensures p refl refl refl refl)
