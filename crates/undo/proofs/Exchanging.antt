@@ -42,3 +42,9 @@ take_turned (suc e) p [] = refl
 take_turned (suc e) p (x ∷ xs) =
     let is : suc e + p ≡ suc (e + p) = omega arith in
     ap (take (suc e)) (ap (λ n. exchanged n (x ∷ xs)) is ∙ turn_suc (e + p) x xs) ∙ ap (λ l. x ∷ l) (take_turned e p xs)
+
+pub length_turned : {A : Type 0} (n : ℕ) (xs : List A) → length (exchanged n xs) ≡ length xs
+length_turned n [] = refl
+length_turned n (b ∷ []) = refl
+length_turned zero (b ∷ a ∷ xs) = refl
+length_turned (suc n) (b ∷ a ∷ xs) = let h = length_turned n (a ∷ xs) in omega (arith, h)

@@ -8,6 +8,7 @@ use Rattle.world_cells.specs.contracts.homes.Homes as homes
 use Rattle.world_cells.specs.contracts.record.CellRecord as cell_record
 use Rattle.world_cells.specs.contracts.world.World as world
 use Rattle.journal_links.specs.contracts.followers.Followers as followers
+use Rattle.journal_links.specs.contracts.heirs.Heirs as heirs
 use Rattle.journal_links.specs.contracts.places.Places as places
 use Rattle.journal.specs.contracts.entry.Entry as entry
 use Rattle.journal.specs.contracts.settled.Settled as settled
@@ -159,6 +160,20 @@ followers_row_sync = search (followers_sync, event_crosses, sendable, crosses) d
 
 pub ruleset followers_crosses = (followers_send, followers_sync, followers_row_send, followers_row_sync)
 
+pub heirs_send : IsSend (heirs.the_field).row
+heirs_send = search (event_crosses, sendable, crosses) depth 40
+
+pub heirs_row_send : IsSend heirs.the_row
+heirs_row_send = search (heirs_send, event_crosses, sendable, crosses) depth 40
+
+pub heirs_sync : IsSync (heirs.the_field).row
+heirs_sync = search (event_crosses, sendable, crosses) depth 40
+
+pub heirs_row_sync : IsSync heirs.the_row
+heirs_row_sync = search (heirs_sync, event_crosses, sendable, crosses) depth 40
+
+pub ruleset heirs_crosses = (heirs_send, heirs_sync, heirs_row_send, heirs_row_sync)
+
 pub open_entries_send : IsSend (open_entries.the_field).row
 open_entries_send = search (entry_crosses, sendable, crosses) depth 40
 
@@ -174,15 +189,15 @@ open_entries_row_sync = search (open_entries_sync, entry_crosses, sendable, cros
 pub ruleset open_entries_crosses = (open_entries_send, open_entries_sync, open_entries_row_send, open_entries_row_sync)
 
 pub core_send : IsSend (core.the_field).row
-core_send = search (world_crosses, settled_crosses, open_entries_crosses, places_crosses, followers_crosses, sendable, crosses) depth 40
+core_send = search (world_crosses, settled_crosses, open_entries_crosses, places_crosses, followers_crosses, heirs_crosses, sendable, crosses) depth 40
 
 pub core_row_send : IsSend core.the_row
-core_row_send = search (core_send, world_crosses, settled_crosses, open_entries_crosses, places_crosses, followers_crosses, sendable, crosses) depth 40
+core_row_send = search (core_send, world_crosses, settled_crosses, open_entries_crosses, places_crosses, followers_crosses, heirs_crosses, sendable, crosses) depth 40
 
 pub core_sync : IsSync (core.the_field).row
-core_sync = search (world_crosses, settled_crosses, open_entries_crosses, places_crosses, followers_crosses, sendable, crosses) depth 40
+core_sync = search (world_crosses, settled_crosses, open_entries_crosses, places_crosses, followers_crosses, heirs_crosses, sendable, crosses) depth 40
 
 pub core_row_sync : IsSync core.the_row
-core_row_sync = search (core_sync, world_crosses, settled_crosses, open_entries_crosses, places_crosses, followers_crosses, sendable, crosses) depth 40
+core_row_sync = search (core_sync, world_crosses, settled_crosses, open_entries_crosses, places_crosses, followers_crosses, heirs_crosses, sendable, crosses) depth 40
 
 pub ruleset core_crosses = (core_send, core_sync, core_row_send, core_row_sync)

@@ -8,9 +8,35 @@ use Rattle.journal.specs.Items.{item_of, may_exchange}
 use Rattle.journal.specs.Journals.{settled_item}
 use Rattle.journal.proofs.Neighbouring.{map-exchanged}
 use Rattle.undo.proofs.Behind.{test_behind, turn_behind}
-use Rattle.undo.proofs.Exchanging.{may_at}
+use Rattle.undo.proofs.Exchanging.{may_at, length_turned}
 use Rattle.undo.proofs.Linked.{Placed, Followed, Inherited, placed_turned, followed_turned, inherited_turned, first_turned, second_turned, room_there}
 use Rattle.undo.proofs.undoing.Core.exchange.Goals as goal
+
+pub at-requires-3 : goal.at-requires-3
+at-requires-3 c =
+    let b = c.args.self.now in
+    let xs = opens b.entries in
+    let ss = b.settled.items in
+    let place = c.args.position - c.len.result in
+    let m : c.len.result ≡ length ss = omega arith in
+    let n = length-map ss settled_item in
+    let all = length-append (map settled_item ss) (map item_of xs) in
+    let h : place + 1 < length xs = omega (arith, all, n, m, length-map xs item_of, c.requires.behind, c.requires.within) in
+    let long = ap length c.exchange.ensures ∙ length_turned place xs in
+    omega (arith, h, long)
+
+pub at-requires-4 : goal.at-requires-4
+at-requires-4 c =
+    let b = c.args.self.now in
+    let xs = opens b.entries in
+    let ss = b.settled.items in
+    let place = c.args.position - c.len.result in
+    let m : c.len.result ≡ length ss = omega arith in
+    let n = length-map ss settled_item in
+    let all = length-append (map settled_item ss) (map item_of xs) in
+    let h : place + 1 < length xs = omega (arith, all, n, m, length-map xs item_of, c.requires.behind, c.requires.within) in
+    let long = ap length c.exchange.ensures ∙ length_turned place xs in
+    omega (arith, h, long)
 
 pub put-requires : goal.put-requires
 put-requires c =
