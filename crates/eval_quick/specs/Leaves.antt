@@ -1,15 +1,16 @@
 -- What is evaluated by no call of the evaluation: leaves, calls on them, and assignments of these.
-use Rattle.std.specs.Prelude.{◌≡◌, ◌≤◌, ◌<◌, ◌+◌, ◌-◌, ℕ, ℤ, Bool, true, false, Some, List, drop}
+use Rattle.std.specs.Prelude.{◌≡◌, ◌≤◌, ◌<◌, ◌+◌, ◌-◌, ℕ, ℤ, Bool, true, false, List, drop}
 use Rattle.ids.specs.declared.names.EjId.{EjId}
 use Rattle.ids.specs.declared.names.SlotId.{SlotId}
 use Rattle.kernele.specs.Tree.{Name, Tree, Trees, noun, call, none, and_then}
 use Rattle.code.specs.View.{trees_of_codes}
 use Rattle.code.specs.declared.code.Code.{Code}
 use Rattle.values.specs.Data.{Val, int, null}
-use Rattle.heap.specs.State.{Bind, slot}
+use Rattle.heap.specs.State.{slot}
 use Rattle.eval_rules.specs.At.{At}
+use Rattle.eval_objects.specs.Finding.{StandsAtHand}
 use Rattle.eval_rules.specs.Outcomes.{End, value, halt}
-use Rattle.eval_rules.specs.Rules.{sought, seeking, noun_end, noun_read, same_ejector, is_open, ejects, Ends, Items, Runs}
+use Rattle.eval_rules.specs.Rules.{sought, noun_end, noun_read, same_ejector, is_open, ejects, Ends, Items, Runs}
 use Rattle.eval_rules.specs.declared.working.TheConstants.{DEEPEST}
 
 -- a noun gives this value, and to read it touches no cell that was not touched before
