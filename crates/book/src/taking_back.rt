@@ -17,7 +17,7 @@ use crate::book::{Book, noted};
 use crate::fault::BookFault;
 use causality::cone::cone;
 use causality::names::NameSet;
-use causality::redoing::may_redo;
+use causality::restoring::may_redo;
 use causality::selection::{
     first_crossing, first_gap, first_marked, first_missing_cause, first_settled, least_missing,
     positions,

@@ -12,7 +12,7 @@ pub mod Following
 pub mod Gaps
 pub mod Indexing
 pub mod Lacking
-pub mod Returning
+pub mod Returned
 pub mod Least
 pub mod NameSets
 pub mod Pairs

@@ -5,6 +5,7 @@ pub mod causes;
 pub mod cone;
 pub mod names;
 mod parting;
+pub mod restoring;
 mod returning;
 pub mod selection;
 pub mod theorems;

@@ -3,7 +3,7 @@ use Rattle.std.specs.List.{list_any}
 use Rattle.journal.specs.Items.{last_of}
 use Rattle.journal.specs.Journals.{items_of}
 use Rattle.causality.specs.Returning.{is_before}
-use Rattle.causality.proofs.redoing.is_overtaken.Given as goal
+use Rattle.causality.proofs.restoring.is_overtaken.Given as goal
 
 -- what is asked of all names is asked of those that are left
 abbrev pub invariant-loop-heir : goal.invariant-loop-heir

@@ -3,8 +3,8 @@ use Rattle.std.specs.List.{list_any}
 use Rattle.journal.specs.Items.{last_of, lasts_of}
 use Rattle.journal.specs.declared.entry.Touched.{Touched}
 use Rattle.causality.specs.Returning.{is_version}
-use Rattle.causality.proofs.Returning.{settled_over}
-use Rattle.causality.proofs.redoing.settled_wrote_over.Goals as goal
+use Rattle.causality.proofs.Returned.{settled_over}
+use Rattle.causality.proofs.restoring.settled_wrote_over.Goals as goal
 
 pub returns : goal.returns
 returns c =

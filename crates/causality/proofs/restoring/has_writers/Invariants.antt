@@ -3,7 +3,7 @@ use Rattle.std.specs.List.{list_all}
 use Rattle.journal.specs.Items.{lasts_of}
 use Rattle.journal.specs.Journals.{items_of}
 use Rattle.causality.specs.Returning.{is_there}
-use Rattle.causality.proofs.redoing.has_writers.Given as goal
+use Rattle.causality.proofs.restoring.has_writers.Given as goal
 
 -- what is asked of all cells is asked of those that are left
 abbrev pub invariant-loop-cell : goal.invariant-loop-cell

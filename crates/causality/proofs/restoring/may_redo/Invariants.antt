@@ -3,7 +3,7 @@ use Rattle.std.specs.List.{list_all}
 use Rattle.journal.specs.Items.{item_of}
 use Rattle.journal.specs.Journals.{items_of}
 use Rattle.causality.specs.Returning.{may_return_named}
-use Rattle.causality.proofs.redoing.may_redo.Given as goal
+use Rattle.causality.proofs.restoring.may_redo.Given as goal
 
 -- what is asked of all names is asked of those that are left
 abbrev pub invariant-loop-name : goal.invariant-loop-name

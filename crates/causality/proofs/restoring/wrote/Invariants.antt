@@ -2,7 +2,7 @@ use Rattle.std.proofs.Common.{◌≡◌, drop}
 use Rattle.std.specs.List.{list_any}
 use Rattle.ids.specs.CellKeys.{same_key}
 use Rattle.world_cells.specs.Theory.{kepts_of}
-use Rattle.causality.proofs.redoing.wrote.Given as goal
+use Rattle.causality.proofs.restoring.wrote.Given as goal
 
 -- what is asked of all records is asked of those that are left
 abbrev pub invariant-loop-record : goal.invariant-loop-record

@@ -3,7 +3,7 @@ use Rattle.std.specs.List.{list_any}
 use Rattle.journal.specs.Items.{lasts_of}
 use Rattle.journal.specs.Journals.{items_of}
 use Rattle.causality.specs.Returning.{is_overtaken}
-use Rattle.causality.proofs.redoing.is_overtaken_any.Given as goal
+use Rattle.causality.proofs.restoring.is_overtaken_any.Given as goal
 
 -- what is asked of all cells is asked of those that are left
 abbrev pub invariant-loop-cell : goal.invariant-loop-cell

@@ -2,7 +2,7 @@ use Rattle.std.proofs.Common.{◌≡◌, drop}
 use Rattle.std.specs.List.{list_any}
 use Rattle.journal.specs.Items.{last_of, lasts_of}
 use Rattle.causality.specs.Returning.{is_version}
-use Rattle.causality.proofs.redoing.any_version.Given as goal
+use Rattle.causality.proofs.restoring.any_version.Given as goal
 
 -- what is asked of all cells is asked of those that are left
 abbrev pub invariant-loop-other : goal.invariant-loop-other

@@ -37,6 +37,7 @@ use Rattle.journal.specs.Links.{lister, AreFollowers, AreHeirs, names_of, open_a
 use Rattle.journal.specs.SettledView.{settled_item, items_in}
 use Rattle.journal.specs.declared.entry.Entry as code
 use Rattle.journal.specs.declared.settled.Settled.{Settled}
+use Rattle.journal.proofs.Touching.{any-map}
 use Rattle.causality.specs.Causes.{passes_at}
 use Rattle.causality.specs.Returning.{is_there, has_writers, wrote_key, wrote_over, is_version, found_so, is_before, is_overtaken, is_behind, any_behind, is_found, may_return, may_return_named}
 use Rattle.causality.specs.Journals.{IsJournal}
@@ -50,7 +51,7 @@ use Rattle.causality.proofs.Following.{number, Apart, all_place}
 use Rattle.causality.proofs.Gathering.{open_behind}
 use Rattle.causality.proofs.NameSets.{in_names}
 use Rattle.causality.proofs.Pairs.{Pairs, pairs_mapped, pairs_to_end, all_to_end, all_from_end, all_unmapped}
-use Rattle.causality.proofs.Placed.{one_name, of_in, place_there, apart_items}
+use Rattle.causality.proofs.Placed.{one_name, place_there, apart_items}
 use Rattle.causality.proofs.Telling.{Tells, journal_tells}
 use Rattle.causality.proofs.Writers.{plain_laws}
 
@@ -66,6 +67,9 @@ all_found : {A : Type 0} (test : A → Bool) (xs : List A) → list_all test xs 
 all_found test [] h a i = absurd i
 all_found test (x ∷ xs) h a (inl e) = ap test (sym e) ∙ (and_parts (test x) (list_all test xs) h).0
 all_found test (x ∷ xs) h a (inr i) = all_found test xs (and_parts (test x) (list_all test xs) h).1 a i
+
+of_in : (names : List EventName) (i : Item) → is_of names i ≡ in_names names i.event.name
+of_in names i = any-map (λ (e : EventName). e.0) (λ n. n == i.event.name.0) names
 
 -- each pair, by its places
 pairs_places : {A : Type 0} (R : A → A → Type 0) (xs : List A) → ((q p : ℕ) (f e : A) → q < p → slice_get xs q ≡ Some f → slice_get xs p ≡ Some e → R f e) → Pairs R xs

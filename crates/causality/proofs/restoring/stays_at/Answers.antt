@@ -5,8 +5,8 @@ use Rattle.journal.specs.Items.{item_of}
 use Rattle.journal.specs.Journals.{settled_item}
 use Rattle.journal.proofs.Settling.{item_behind}
 use Rattle.causality.specs.Walks.{stays}
-use Rattle.causality.proofs.Returning.{settled_stays}
-use Rattle.causality.proofs.redoing.stays_at.Goals as goal
+use Rattle.causality.proofs.Returned.{settled_stays}
+use Rattle.causality.proofs.restoring.stays_at.Goals as goal
 
 pub returns-then-place-journal : goal.returns-then-place-journal
 returns-then-place-journal c = settled_stays c.args.names.now c.args.journal.settled.now (map item_of c.args.journal.entries.now) c.args.place c.if-place-journal.true

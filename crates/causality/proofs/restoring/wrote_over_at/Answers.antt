@@ -6,7 +6,7 @@ use Rattle.journal.specs.Journals.{settled_item}
 use Rattle.journal.proofs.Settling.{item_before, item_behind}
 use Rattle.causality.specs.Returning.{wrote_over}
 use Rattle.causality.specs.Walks.{stays}
-use Rattle.causality.proofs.redoing.wrote_over_at.Goals as goal
+use Rattle.causality.proofs.restoring.wrote_over_at.Goals as goal
 
 pub returns-then-place-journal : goal.returns-then-place-journal
 returns-then-place-journal c =

@@ -2,7 +2,7 @@ use Rattle.std.proofs.Common.{◌≡◌, ◌&&◌, length, map, drop}
 use Rattle.std.specs.List.{list_any}
 use Rattle.journal.specs.Items.{item_of, lasts_of}
 use Rattle.causality.specs.Returning.{wrote_key, is_found}
-use Rattle.causality.proofs.redoing.is_found_any.Given as goal
+use Rattle.causality.proofs.restoring.is_found_any.Given as goal
 
 -- what is asked of all cells is asked of those that are left
 abbrev pub invariant-loop-cell : goal.invariant-loop-cell

@@ -2,7 +2,7 @@ use Rattle.std.proofs.Common.{◌≡◌, length, map, drop}
 use Rattle.std.specs.List.{list_any}
 use Rattle.journal.specs.Items.{item_of, last_of}
 use Rattle.causality.specs.Returning.{is_behind}
-use Rattle.causality.proofs.redoing.any_listed.Given as goal
+use Rattle.causality.proofs.restoring.any_listed.Given as goal
 
 -- what is asked of all names is asked of those that are left
 abbrev pub invariant-loop-event : goal.invariant-loop-event
