@@ -149,7 +149,12 @@ impl Agenda {
     }
 
     /// Notes what a promise was published as, and anew how those wait that hang on it.
-    fn note_board(&mut self, alloc: Global, world: &World, promise: PromId) -> Result<(), AllocError>
+    fn note_board(
+        &mut self,
+        alloc: Global,
+        world: &World,
+        promise: PromId,
+    ) -> Result<(), AllocError>
         ensures { OnOk result (NotesCell (world_of world.now) (cell.Board promise) self.old self.new) }
     {
         self.wake(alloc, world, Cue::Board(promise))?;

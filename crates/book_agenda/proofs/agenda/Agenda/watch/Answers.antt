@@ -6,7 +6,7 @@ use Rattle.book_agenda.proofs.agenda.Agenda.watch.Goals as goal
 
 pub returns-then-is_empty : goal.returns-then-is_empty
 returns-then-is_empty c =
-    let none : length c.args.cues.items ≡ 0 = first_of (omega (arith, c.if-is_empty.ensures, c.args.cues.ok.0), grind (arith, c.if-is_empty.ensures, c.args.cues.ok.0), grind (arith, common_steps, c.if-is_empty.ensures, c.args.cues.ok.0)) in
+    let none : length c.args.cues.items ≡ 0 = first_of (grind (arith, c.is_empty.ensures, c.if-is_empty.true, c.args.cues.ok.0), grind (arith, common_steps, c.is_empty.ensures, c.if-is_empty.true, c.args.cues.ok.0)) in
     watched_none c.args.name c.args.cues.items _ _ (nil_from_length c.args.cues.items none) c.in_ok-unwatch.ensures
 
 pub returns : goal.returns
