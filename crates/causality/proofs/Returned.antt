@@ -334,9 +334,10 @@ nothing_lacks places followers heirs ss xs names placed followed inherited journ
     let told = journal_tells all journal in
     let lacks : ArePlaces places (names_of all) → Apart (map number all) → AreFollowers followers (map item_of xs) → AreHeirs heirs all → (first_missing_cause names (lines_of all) ≡ None) × (first_crossing names (lines_of all) ≡ None) =
     λ are apart follow inherit. lacks_of_sound names (lines_of all) told
-    ((redo_exact plain plain_laws (among names) (entries_in (lines_of all)) told.lines_are.distinct told.chained told.lines_are.sound).1
-    (misses_none places followers heirs ss xs names are apart told follow inherit none (each_may names may),
-    crosses_none places followers heirs ss xs names are apart told follow inherit none (each_may names may))) in (
+    ((redo_exact plain plain_laws (among names) (entries_in (lines_of all)) told.lines_are.distinct told.chained told.lines_are.sound).1 (
+      misses_none places followers heirs ss xs names are apart told follow inherit none (each_may names may),
+      crosses_none places followers heirs ss xs names are apart told follow inherit none (each_may names may),
+    )) in (
       ∥∥₁_elim placed (gap_set _ _) (λ are. ∥∥₁_elim (apart_items all journal) (gap_set _ _) (λ apart. ∥∥₁_elim followed (gap_set _ _) (λ follow. ∥∥₁_elim inherited (gap_set _ _) (λ inherit. (lacks are apart follow inherit).0)))),
       ∥∥₁_elim placed (gap_set _ _) (λ are. ∥∥₁_elim (apart_items all journal) (gap_set _ _) (λ apart. ∥∥₁_elim followed (gap_set _ _) (λ follow. ∥∥₁_elim inherited (gap_set _ _) (λ inherit. (lacks are apart follow inherit).1)))),
     )
