@@ -31,8 +31,8 @@ use Rattle.stepper_questions.specs.Objects.{ObjectTold, NoObject, found_in, obje
 use Rattle.stepper_questions.specs.Refusals.{place_from, place_of, standing_at, standing_of, absent, settled, event_refusal, pair_refusal, unanswered_text}
 use Rattle.stepper_questions.specs.Why.{step_text, is_by, crossed_with, first_crossed, Steps, steps_none, steps_more, Crossing, is_crossed, is_neither, Reason, is_chained, is_apart, ReasonBetween, in_order, turned, at_one, Why}
 use Rattle.stepper_questions.specs.Writers.{Told, writer, told, Cells, first_cell}
-use Rattle.stepper_questions.specs.contracts.cell.CellOrd.TheImpl.Laws.{total-law}
-use Rattle.stepper_questions.specs.declared.cell.Cell.{Cell}
+use Rattle.stepper_questions.specs.contracts.cell.ToldCellOrd.TheImpl.Laws.{total-law}
+use Rattle.stepper_questions.specs.declared.cell.ToldCell.{ToldCell}
 use Rattle.stepper_questions.specs.declared.unanswered.Unanswered.{Unanswered}
 use Rattle.stepper_questions.proofs.CellNames.{exact_cells}
 use Rattle.stepper.specs.Replies.{refused, Answers, why_without_memory, why_refused, why_told, event_without_memory, event_refused, event_told, message_without_memory, message_refused, message_told, object_without_memory, object_refused, object_told}
@@ -79,7 +79,7 @@ module _ (ls ms : List Line) (h : SameLines ls ms) where
   same_cell : (l m : Line) → SameLine l m → (k : CellKey) → told ms m.entry k ≡ told ls l.entry k
   same_cell l m one k = λ i. cond (one.touched k i) (Some (record { writer = same_writer l m one k i; written = one.written k i })) None
 
-  one_cells : (l m : Line) → SameLine l m → {cells others : List (Cell × Told)} → Cells ls l.entry cells → Cells ms m.entry others → others ≡ cells
+  one_cells : (l m : Line) → SameLine l m → {cells others : List (ToldCell × Told)} → Cells ls l.entry cells → Cells ms m.entry others → others ≡ cells
   one_cells l m one {others = others} a b =
       lists_once total-law exact_cells a (lists_along cell_cmp (λ c. told ms m.entry (key_of c)) (λ c. told ls l.entry (key_of c)) others (λ c. same_cell l m one (key_of c)) b)
 
@@ -131,7 +131,7 @@ module _ (ls ms : List Line) (h : SameLines ls ms) where
       no_later_both ps qs many (a.nearest qs (chain_back ls ms h b.chain) many) (b.nearest ps (chain_on a.chain) (sym many))
 
   -- the first cell by which an event leads to another
-  one_first : (a b : Line) → SameLine a b → (cells others : List (Cell × Told)) → others ≡ cells → (c d : Cell) → first_cell (is_by (a.entry.event.name)) cells ≡ Some c → first_cell (is_by (b.entry.event.name)) others ≡ Some d → d ≡ c
+  one_first : (a b : Line) → SameLine a b → (cells others : List (ToldCell × Told)) → others ≡ cells → (c d : ToldCell) → first_cell (is_by (a.entry.event.name)) cells ≡ Some c → first_cell (is_by (b.entry.event.name)) others ≡ Some d → d ≡ c
   one_first a b one cells others same c d first also =
       let both : first_cell (is_by (b.entry.event.name)) others ≡ first_cell (is_by (a.entry.event.name)) cells = λ i. first_cell (is_by ((one.event i).name)) (same i) in cc
 
@@ -145,7 +145,7 @@ module _ (ls ms : List Line) (h : SameLines ls ms) where
       let rest = steps_once w v in λ i. rest i ++ step_text ((also.event i).name) ((one.event i).name) (cell i)
 
   -- where entries cross
-  one_crossed : (a x : Line) → SameLine a x → (cells others : List (Cell × Told)) → others ≡ cells → first_crossed ms x.entry others ≡ first_crossed ls a.entry cells
+  one_crossed : (a x : Line) → SameLine a x → (cells others : List (ToldCell × Told)) → others ≡ cells → first_crossed ms x.entry others ≡ first_crossed ls a.entry cells
   one_crossed a x also cells others same = λ i. first_cell (λ c t. crossed_with (same_cell ls ms h a x also (key_of c) i) t) (same i)
 
   crossing_once : {s l : ℕ} {t u : List ℕ} → Crossing ls s l t → Crossing ms s l u → u ≡ t

@@ -11,7 +11,7 @@ use Rattle.values.proofs.verb.Verb.TheSendSync as verbs
 use Rattle.eorder.proofs.carried.Carried.TheSendSync as carried_fences
 use Rattle.eorder.proofs.fence.Fence.TheSendSync as fences
 use Rattle.kernele.proofs.tree.Pattern.TheSendSync as patterns
-use Rattle.code.proofs.code.Place.TheSendSync as coded_places
+use Rattle.code.proofs.code.NounPlace.TheSendSync as coded_places
 use Rattle.code.proofs.code.Capture.TheSendSync as captures
 use Rattle.code.proofs.index.MethodIndex.TheSendSync as indices
 use Rattle.post.proofs.earlier.Earlier.TheSendSync as earlier_vats

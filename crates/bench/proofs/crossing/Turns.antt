@@ -5,7 +5,7 @@ use Rattle.eval_rules.specs.contracts.outbox.Letter as letter
 use Rattle.eval_rules.specs.contracts.publications.Publications as publications
 use Rattle.eval_rules.specs.contracts.outbox.Outbox as outbox
 use Rattle.turn_deliveries.specs.contracts.lead.Lead as lead
-use Rattle.turn_deliveries.specs.contracts.outcome.Ended as ended
+use Rattle.turn_deliveries.specs.contracts.outcome.TurnEnd as ended
 use Rattle.turn_deliveries.specs.contracts.outcome.Outcome as outcome
 use Rattle.bench.proofs.crossing.Messages.{message_crosses, published_crosses}
 use Rattle.bench.proofs.crossing.More.{note_crosses, abandon_crosses}

@@ -10,8 +10,8 @@ returns-in_err-send-in-Ok-clause-err g c =
     (ends_cut g.R.Read.remaining g.W.Write.contents c.args.self.now.limits c.args.source.now c.answer_all.new.source c.reopen.new.self c.answer_all.new.sink c.send.new.self
     c.answer_all.new.self.written.refused c.in-Ok.ensures.whole (c.send.ensures.tells.some c.in-Ok.ensures.uncut c.in_err-send-in-Ok.ensures.err)))
 
-pub returns-in-Ok-clause-ok : goal.returns-in-Ok-clause-ok
-returns-in-Ok-clause-ok g c =
+pub returns-in_ok-send-in-Ok-clause-ok : goal.returns-in_ok-send-in-Ok-clause-ok
+returns-in_ok-send-in-Ok-clause-ok g c =
     ends_from g.R.Read.remaining g.W.Write.contents c.args.self.now.limits c.args.source.now c.answer_all.new.source c.args.sink.now c.reopen.new.self c.send.new.self c.answer_all.new.self.written.refused c.reopen.ensures.gives
     (ends_sent g.R.Read.remaining g.W.Write.contents c.args.self.now.limits c.args.source.now c.answer_all.new.source c.reopen.new.self c.answer_all.new.sink c.send.new.self c.answer_all.new.self.written.refused c.in-Ok.ensures.whole
     (c.send.ensures.tells.all c.in-Ok.ensures.uncut c.in_ok-send-in-Ok.ensures.ok))
@@ -25,8 +25,8 @@ returns-in_err-send-in-Err-Reader-clause-err g c =
     (fails_cut g.R.Read.remaining g.W.Write.contents c.args.self.now.limits c.args.source.now c.answer_all.new.source c.reopen.new.self c.answer_all.new.sink c.send-in-Err-Reader.new.self Reader (λ e. cc) r
     (c.send-in-Err-Reader.ensures.tells.some u c.in_err-send-in-Err-Reader.ensures.err)))
 
-pub returns-in-Err-Reader-clause-err : goal.returns-in-Err-Reader-clause-err
-returns-in-Err-Reader-clause-err g c =
+pub returns-in_ok-send-in-Err-Reader-clause-err : goal.returns-in_ok-send-in-Err-Reader-clause-err
+returns-in_ok-send-in-Err-Reader-clause-err g c =
     let r = rw c.in-Err-Reader.field-0-is at c.in-Err-Reader.ensures.whole in
     let u = rw c.in-Err-Reader.field-0-is at c.in-Err-Reader.ensures.uncut in
     fails_from g.R.Read.remaining g.W.Write.contents c.args.self.now.limits c.args.source.now c.answer_all.new.source c.args.sink.now c.reopen.new.self c.send-in-Err-Reader.new.self Reader c.reopen.ensures.gives
@@ -50,8 +50,8 @@ returns-in_err-send-in-Err-Memory-clause-err g c =
     (fails_cut g.R.Read.remaining g.W.Write.contents c.args.self.now.limits c.args.source.now c.answer_all.new.source c.reopen.new.self c.answer_all.new.sink c.send-in-Err-Memory.new.self Memory (λ e. cc) r
     (c.send-in-Err-Memory.ensures.tells.some u c.in_err-send-in-Err-Memory.ensures.err)))
 
-pub returns-clause-err : goal.returns-clause-err
-returns-clause-err g c =
+pub returns-in_ok-send-in-Err-Memory-clause-err : goal.returns-in_ok-send-in-Err-Memory-clause-err
+returns-in_ok-send-in-Err-Memory-clause-err g c =
     let r = rw c.in-Err-Memory.field-0-is at c.in-Err-Memory.ensures.whole in
     let u = rw c.in-Err-Memory.field-0-is at c.in-Err-Memory.ensures.uncut in
     fails_from g.R.Read.remaining g.W.Write.contents c.args.self.now.limits c.args.source.now c.answer_all.new.source c.args.sink.now c.reopen.new.self c.send-in-Err-Memory.new.self Memory c.reopen.ensures.gives
