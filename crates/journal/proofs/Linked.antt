@@ -1,8 +1,11 @@
 -- Places and followers stay right as entries come, change places, are exchanged with the cells, and settle.
-use Rattle.std.proofs.Common.{◌≡◌, ◌≢◌, ◌∙◌, ℕ, zero, suc, ◌+◌, ◌<◌, Bool, true, List, [], ◌∷◌, ◌++◌, Option, Some, None, length, map, set, get_or, take, drop, slice_get, refl, sym, ap, subst, add-one, arith}
+use Rattle.std.proofs.Common.{◌≡◌, ◌≢◌, ◌∙◌, ℕ, zero, suc, ◌+◌, ◌<◌, Bool, true, false, cond, List, [], ◌∷◌, ◌++◌, Option, Some, None, unwrap_or, length, map, set, get_or, take, drop, slice_get, refl, sym, ap, subst, add-one, arith}
 use Rattle.std.specs.List.{AllByRecursion}
 use Rattle.std.proofs.lemmas.List.{map-append, take_more, length-map, length-append}
+use Rattle.history.specs.Subject.{found}
+use Rattle.ids.specs.CellKeys.{same_key}
 use Rattle.ids.specs.declared.names.EventName.{EventName}
+use Rattle.ids.proofs.CellKeys.{same_exact}
 use Rattle.ids.specs.declared.cells.CellKey.{CellKey}
 use Rattle.journal_links.specs.Followers.{IsLetGo}
 use Rattle.journal_links.specs.declared.followers.Followers.{Followers}
@@ -15,7 +18,7 @@ use Rattle.world_cells.specs.Theory.{cells, kept_of, kepts_of}
 use Rattle.world_cells.specs.World.{Content}
 use Rattle.world_cells.specs.declared.record.CellRecord.{CellRecord}
 use Rattle.journal.specs.Items.{Item, item_of, last_of, lasts_of, swap_item, exchanged}
-use Rattle.journal.specs.Lines.{last_among}
+use Rattle.journal.specs.Lines.{last_among, plain}
 use Rattle.journal.specs.Links.{lister, IsListed, AreListed, names_of}
 use Rattle.journal.specs.Settled.{written_by}
 use Rattle.journal.specs.SettledView.{settled_item, items_in}
@@ -132,7 +135,7 @@ names_swapped names n a b h g =
 
 -- ---- what is listed
 
-listed_kept : (old new : EventName → EventName → Bool) → Keeps old new → (e : EventName) (lasts : List (CellKey × Option ℕ)) → IsListed old e lasts → IsListed new e lasts
+pub listed_kept : (old new : EventName → EventName → Bool) → Keeps old new → (e : EventName) (lasts : List (CellKey × Option ℕ)) → IsListed old e lasts → IsListed new e lasts
 listed_kept old new kept e lasts h = all_map _ _ lasts (λ p on. kept (lister p.0 p.1) e on) h
 
 -- one more cell
@@ -196,3 +199,19 @@ pub gone_more : (old new : Followers) (xs : List Entry) (i : ℕ) (d : Entry) �
 gone_more old new xs i d h kept here before =
     subst (AllByRecursion (λ (x : Entry). IsLetGo new x.event.name)) (sym (take_more xs i d h))
     (all_end _ (take i xs) (get_or xs i d) (all_map _ _ (take i xs) (λ x was. kept x.event.name was) before) here)
+
+among_at : (on : EventName → Bool) (p : CellKey × Option ℕ) (ps : List (CellKey × Option ℕ)) (k : CellKey) (b : Bool) → same_key p.0 k ≡ b → on (lister p.0 p.1) ≡ true → on (lister k (last_among ps k)) ≡ true
+    → on (lister k (unwrap_or (cond b (Some p.1) (found plain ps k)) None)) ≡ true
+among_at on p ps k true is h g = subst (λ q. on (lister q p.1) ≡ true) (same_exact p.0 k is) h
+among_at on p ps k false is h g = g
+
+-- an event that is listed for each of these cells with their last writers is listed for a cell by the last writer that it has among them,
+-- where it is listed for the cell as if nobody had written it
+among : (on : EventName → Bool) (lasts : List (CellKey × Option ℕ)) (k : CellKey) → AllByRecursion (λ p. on (lister p.0 p.1) ≡ true) lasts → on (lister k None) ≡ true → on (lister k (last_among lasts k)) ≡ true
+among on [] k h g = g
+among on (p ∷ ps) k (h, hs) g = among_at on p ps k (same_key p.0 k) refl h (among on ps k hs g)
+
+pub listed_widely : (on_list : EventName → EventName → Bool) (e : EventName) (lasts : List (CellKey × Option ℕ)) (rs : Record cells) → IsListed on_list e lasts
+    → IsListed on_list e (map {B = CellKey × Option ℕ} (λ r. (r.0, last_among [] r.0)) rs) → IsListed on_list e (map {B = CellKey × Option ℕ} (λ r. (r.0, last_among lasts r.0)) rs)
+listed_widely on_list e lasts [] h g = tt
+listed_widely on_list e lasts (r ∷ rs) h (g, gs) = (among (λ w. on_list w e) lasts r.0 h g, listed_widely on_list e lasts rs h gs)

@@ -18,6 +18,9 @@ use journal_links::heirs::Heirs;
 use std::alloc::AllocError;
 use world_cells::record::CellRecord;
 
+/// For how many records the cells that an event touched are searched one after another.
+const FEW_RECORDS: usize = 16;
+
 /// The event that made what a message can be sent on.
 fn event_in(reference: Reference) -> EventName
     ensures { result ≡ event_in reference }
@@ -71,8 +74,8 @@ pub fn list_follower(
     Ok(())
 }
 
-/// Lists an event for each of these records of what it wrote. Fails only for want of memory; it may be listed for some then.
-pub fn list_heir(
+/// As `list_heir`, by a search among the touched cells for each record.
+fn list_exactly(
     heirs: &mut Heirs,
     event: EventName,
     touched: &[Touched],
@@ -87,6 +90,48 @@ pub fn list_heir(
         heirs.add(lister(&key, writer), event)?;
     }
     Ok(())
+}
+
+/// Lists an event for each cell that it touched, as if it had written them all.
+fn list_all(heirs: &mut Heirs, event: EventName, touched: &[Touched]) -> Result<(), AllocError>
+    ensures ok { OnOk result (IsListed (is_heir heirs.new) event (lasts_of touched.now)) }
+    ensures kept { (e f : EventName) → is_heir heirs.old e f ≡ true → is_heir heirs.new e f ≡ true }
+{
+    for found in touched {
+        heirs.add(lister(&found.key, found.writer), event)?;
+    }
+    Ok(())
+}
+
+/// As `list_heir`, in one pass over the touched cells: it lists more than must be.
+fn list_widely(
+    heirs: &mut Heirs,
+    event: EventName,
+    touched: &[Touched],
+    records: &[CellRecord],
+) -> Result<(), AllocError>
+    ensures ok { OnOk result (IsListed (is_heir heirs.new) event (map (λ r. (r.0, last_among (lasts_of touched.now) r.0)) (kepts_of records.now))) }
+    ensures kept { (e f : EventName) → is_heir heirs.old e f ≡ true → is_heir heirs.new e f ≡ true }
+{
+    list_all(heirs, event, touched)?;
+    // A cell that was written and not touched would have no last writer among the touched ones.
+    list_exactly(heirs, event, &[], records)
+}
+
+/// Lists an event for each of these records of what it wrote. Fails only for want of memory; it may be listed for some then.
+pub fn list_heir(
+    heirs: &mut Heirs,
+    event: EventName,
+    touched: &[Touched],
+    records: &[CellRecord],
+) -> Result<(), AllocError>
+    ensures ok { OnOk result (IsListed (is_heir heirs.new) event (map (λ r. (r.0, last_among (lasts_of touched.now) r.0)) (kepts_of records.now))) }
+    ensures kept { (e f : EventName) → is_heir heirs.old e f ≡ true → is_heir heirs.new e f ≡ true }
+{
+    if records.len() > FEW_RECORDS {
+        return list_widely(heirs, event, touched, records);
+    }
+    list_exactly(heirs, event, touched, records)
 }
 
 /// Lets go who followed these entries. It takes no memory.

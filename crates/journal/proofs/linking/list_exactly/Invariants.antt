@@ -5,7 +5,7 @@ use Rattle.world_cells.specs.Theory.{kepts_of}
 use Rattle.journal.specs.Items.{lasts_of}
 use Rattle.journal.specs.Lines.{last_among}
 use Rattle.journal.specs.Links.{IsListed}
-use Rattle.journal.proofs.linking.list_heir.Given as goal
+use Rattle.journal.proofs.linking.list_exactly.Given as goal
 
 abbrev pub invariant-loop-record : goal.invariant-loop-record
 invariant-loop-record l = record {

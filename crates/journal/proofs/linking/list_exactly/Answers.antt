@@ -8,7 +8,7 @@ use Rattle.journal.specs.Items.{lasts_of}
 use Rattle.journal.specs.Lines.{last_among}
 use Rattle.journal.specs.Links.{lister}
 use Rattle.journal.proofs.Linked.{inherits_more}
-use Rattle.journal.proofs.linking.list_heir.Goals as goal
+use Rattle.journal.proofs.linking.list_exactly.Goals as goal
 
 pub loop-record-preserved : goal.loop-record-preserved
 loop-record-preserved c =
