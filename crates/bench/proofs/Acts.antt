@@ -4,17 +4,18 @@ use Rattle.ids.specs.declared.names.EventName.{EventName}
 use Rattle.world_cells.specs.Events.{Act, Event}
 use Rattle.world_cells.specs.EventView.{event_of}
 use Rattle.world_cells.specs.declared.event.Event as code
-use Rattle.book_agenda.specs.declared.agenda.Step.{Step}
+use Rattle.book_agenda.specs.declared.agenda.Move.{Move}
 use Rattle.book.specs.Books.{Book}
+use Rattle.book.specs.Calls.{act_of}
 use Rattle.bench_pact.specs.Agree.{strike, entered_by}
 use Rattle.bench.specs.declared.instruction.Instruction.{Instruction}
 use Rattle.bench.specs.declared.instruction.Instruction.TheVariants as instruction
 use Rattle.bench.specs.declared.pick.Pick.TheVariants as pick
 use Rattle.book_crew.specs.Work.{is_turn}
 use Rattle.bench.specs.SharedBook.{Held, Returns}
-use Rattle.bench.specs.Author.{IsActOf, IsStep, Obeys, Picks, mark_of}
+use Rattle.bench.specs.Author.{IsActOf, Obeys, Picks, mark_of}
 use Rattle.bench.proofs.Agrees.{Grows}
-use Rattle.bench.proofs.Moves.{grows_act, requested, request_no_turn, step_no_turn}
+use Rattle.bench.proofs.Moves.{grows_act, requested, request_no_turn, move_no_turn}
 
 -- an instruction entered an event
 pub record Entering (c : Instruction) (e : EventName) (seat : ℕ) (old now : Book) : Type 0 where
@@ -37,25 +38,21 @@ entering (instruction.Enter r) e seat old now h =
     }
 entering _ e seat old now h = absurd h
 
--- a step was done at once
+-- a move was made at once
 pub record Moving (e : EventName) (seat : ℕ) (old now : Book) : Type 0 where
-  pub step : Step
-  pub act : Act
-  pub is : IsStep step act
-  pub no_turn : is_turn act ≡ false
-  pub grows : Grows (record { seat = seat; event = record { name = e; act = act } }) old now
+  pub move : Move
+  pub no_turn : is_turn (act_of move) ≡ false
+  pub grows : Grows (record { seat = seat; event = record { name = e; act = act_of move } }) old now
   pub same_out : now.out ≡ old.out
   pub same_settled : now.settled ≡ old.settled
 
 pub moving : (budget seat : ℕ) (e : EventName) (old now : Book) → Picks budget seat (pick.Moved e) old now → Moving e seat old now
 moving budget seat e old now h = record {
-  step = h.0;
-  act = h.1;
-  is = h.3;
-  no_turn = step_no_turn h.0 h.1 h.3;
-  grows = grows_act e h.1 seat old now h.4;
-  same_out = h.4.enters.same_out;
-  same_settled = h.4.enters.same_settled;
+  move = h.0;
+  no_turn = move_no_turn h.0;
+  grows = grows_act e (act_of h.0) seat old now h.2;
+  same_out = h.2.enters.same_out;
+  same_settled = h.2.enters.same_settled;
 }
 
 -- what is marked enters nothing

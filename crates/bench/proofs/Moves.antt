@@ -5,12 +5,12 @@ use Rattle.std.proofs.lemmas.List.{length-map}
 use Rattle.std.proofs.lemmas.List.Sorted.{IsPermutation-refl, IsPermutation-cons, IsPermutation-middle}
 use Rattle.std.proofs.lemmas.Option.{slice_get-map}
 use Rattle.ids.specs.declared.names.EventName.{EventName}
-use Rattle.world_cells.specs.Events.{Act, birth, ask, arrive, forward, learn, Noted, event_in, with_notes}
+use Rattle.world_cells.specs.Events.{Act, birth, ask, Noted, event_in, with_notes}
 use Rattle.kernele.specs.View.{program_of}
 use Rattle.world_cells.specs.EventView.{event_of}
 use Rattle.event.specs.Events.{Foot, birth_foot, ask_foot}
-use Rattle.book_agenda.specs.declared.agenda.Step.{Step}
-use Rattle.book_agenda.specs.declared.agenda.Step.TheVariants as step
+use Rattle.book_agenda.specs.declared.agenda.Move.{Move}
+use Rattle.book_agenda.specs.declared.agenda.Move.TheVariants as move
 use Rattle.journal.specs.Items.{item_of, exchanged}
 use Rattle.journal.specs.Journals.{items_in, settled_item}
 use Rattle.journal.specs.Lines.{Line, line_of, lines_of, in_order}
@@ -20,16 +20,16 @@ use Rattle.journal.specs.declared.entry.Entry as code
 use Rattle.desk.specs.Desks.{Lent, without, is_out}
 use Rattle.undo.specs.OpenView.{opens}
 use Rattle.undo.specs.CoreView.{items_of}
+use Rattle.book_refusals.specs.Checks.{exchange_refusal}
+use Rattle.book_refusals.specs.declared.fault.BookFault.{BookFault}
+use Rattle.book_refusals.specs.declared.fault.BookFault.TheVariants.{NoTicket}
 use Rattle.book.specs.Books.{Book}
 use Rattle.book.specs.BookView.{book_of}
 use Rattle.book.specs.declared.book.Book as code-book
-use Rattle.book.specs.Calls.{Enters, Undoes, Redoes, Exchanges, undone, redone}
-use Rattle.book.specs.Refusals.{exchange_refusal}
+use Rattle.book.specs.Calls.{Enters, Undoes, Redoes, Exchanges, act_of, undone, redone}
 use Rattle.book.specs.Requests.{EntersRequest}
 use Rattle.book.specs.declared.request.Request.{Request}
 use Rattle.book.specs.declared.request.Request.TheVariants as request
-use Rattle.book.specs.declared.fault.BookFault.{BookFault}
-use Rattle.book.specs.declared.fault.BookFault.TheVariants.{NoTicket}
 use Rattle.book.proofs.TicketsOut.{not_out}
 use Rattle.bench_pact.specs.declared.TokenView.{TokenView}
 use Rattle.bench_pact.specs.declared.Deeds.{Deeds}
@@ -41,7 +41,7 @@ use Rattle.book.specs.Entered.{Entered, entered_in}
 use Rattle.book_crew.specs.Work.{is_turn}
 use Rattle.bench.specs.Seats.{events_by}
 use Rattle.bench.specs.SharedBook.{IsSharedBook}
-use Rattle.bench.specs.Author.{IsRequested, IsStep, EntersAct, Marks, EntersNone, Refuses, instruction_refusal, mark_of}
+use Rattle.bench.specs.Author.{IsRequested, EntersAct, Marks, EntersNone, Refuses, instruction_refusal, mark_of}
 use Rattle.bench.proofs.Agrees.{entry, Grows, grown, Rests, rests_same, shared_rested, shared_closed}
 
 -- ---- an event is entered
@@ -68,22 +68,17 @@ requested (request.Ask x program) e seat old now h = record {
   of_request = refl;
   enters = record { foot = ask_foot e x h.1.0 (program_of program); enters = h.1.1 };
 }
-requested (request.Arrive m) e seat old now h = record { act = arrive m; of_request = refl; enters = record { foot = h.1.0; enters = h.1.1 } }
-requested (request.Forward m) e seat old now h = record { act = forward m; of_request = refl; enters = record { foot = h.1.0; enters = h.1.1 } }
-requested (request.Learn v p) e seat old now h = record { act = learn v p; of_request = refl; enters = record { foot = h.1.0; enters = h.1.1 } }
+requested (request.Move m) e seat old now h = record { act = act_of m; of_request = refl; enters = record { foot = h.1.0; enters = h.1.1 } }
+
+pub move_no_turn : (m : Move) → is_turn (act_of m) ≡ false
+move_no_turn (move.Arrive m) = refl
+move_no_turn (move.Forward m) = refl
+move_no_turn (move.Learn v p) = refl
 
 pub request_no_turn : (r : Request) (act : Act) → IsRequested r act → is_turn act ≡ false
 request_no_turn (request.Birth x earlier script) act h = ap is_turn h
 request_no_turn (request.Ask x program) act h = ap is_turn h
-request_no_turn (request.Arrive m) act h = ap is_turn h
-request_no_turn (request.Forward m) act h = ap is_turn h
-request_no_turn (request.Learn v p) act h = ap is_turn h
-
-pub step_no_turn : (s : Step) (act : Act) → IsStep s act → is_turn act ≡ false
-step_no_turn (step.Arrive m) act h = ap is_turn h
-step_no_turn (step.Forward m) act h = ap is_turn h
-step_no_turn (step.Learn v p) act h = ap is_turn h
-step_no_turn (step.Turn m) act h = absurd h
+request_no_turn (request.Move m) act h = ap is_turn h ∙ move_no_turn m
 
 -- ---- no event is entered
 rests_alike : (old now : Book) → entered_in now.journal ≡ entered_in old.journal → Rests old now

@@ -16,17 +16,16 @@ use Rattle.book_agenda.specs.Enabled.{MayDo, may_arrive, may_forward, may_turn, 
 use Rattle.book_agenda.specs.declared.agenda.Step.{Step}
 use Rattle.book_agenda.specs.declared.agenda.Step.TheVariants as step
 use Rattle.desk.specs.Desks.{has_vat}
+use Rattle.book_refusals.specs.Fault.{Tells}
+use Rattle.book_refusals.specs.declared.fault.BookFault.{BookFault}
+use Rattle.book_refusals.specs.Refusals.{Refusal, first, refuse_where, refusal_of, not_there, not_ready, nothing_to_learn, vat_out}
 use Rattle.book.specs.Books.{Book}
-use Rattle.book.specs.Fault.{Tells}
-use Rattle.book.specs.declared.fault.BookFault.{BookFault}
-use Rattle.book.specs.Refusals.{Refusal, first, refuse_where, refusal_of, not_there, not_ready, nothing_to_learn, vat_out, budget_refusal, full_refusal, arrival_refusal, arrival_refusal_by, forward_refusal, onward_refusal, learning_refusal, checkout_refusal, vat_at_is_out, message_out}
+use Rattle.book.specs.Refusals.{budget_refusal, full_refusal, arrival_refusal, arrival_refusal_by, forward_refusal, onward_refusal, learning_refusal, move_refusal, checkout_refusal, vat_at_is_out, message_out}
 use Rattle.bench.specs.Author.{FirstIn, no_room, RefusesPick}
 
 -- why the call of the book that does a step, or lends a ticket for it, is refused
 abbrev pub refusal_at : ℕ → Step → Book → Option Refusal
-refusal_at budget (step.Arrive m) b = arrival_refusal b m
-refusal_at budget (step.Forward m) b = forward_refusal b m
-refusal_at budget (step.Learn v p) b = learning_refusal b v p
+refusal_at budget (step.Move m) b = move_refusal b m
 refusal_at budget (step.Turn m) b = checkout_refusal b m budget
 
 arrival_room : (b : Book) (m : MsgId) (g : Message) (v : VatNo) → message_of b.world m ≡ Some g → flies_to g.place ≡ Some v → arrival_refusal b m ≡ full_refusal b

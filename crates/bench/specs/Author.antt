@@ -3,19 +3,22 @@ use Rattle.std.specs.Prelude.{◌≡◌, ◌⊎◌, ℕ, false, not, Option, Som
 use Rattle.ids.specs.declared.names.EventName.{EventName}
 use Rattle.ids.specs.declared.names.MsgId.{MsgId}
 use Rattle.kernele.specs.View.{program_of}
-use Rattle.world_cells.specs.Events.{Act, birth, ask, arrive, forward, learn, turn, Event}
+use Rattle.world_cells.specs.Events.{Act, birth, ask, turn, Event}
 use Rattle.event.specs.Events.{Foot}
 use Rattle.book_agenda.specs.Enabled.{First}
+use Rattle.book_agenda.specs.declared.agenda.Move.{Move}
 use Rattle.book_agenda.specs.declared.agenda.Step.{Step}
 use Rattle.book_agenda.specs.declared.agenda.Step.TheVariants as step
 use Rattle.desk.specs.Desks.{has_vat, is_out, without}
 use Rattle.turn.specs.declared.ticket.Ran.{Ran}
+use Rattle.book_refusals.specs.Fault.{Tells, told_by}
+use Rattle.book_refusals.specs.declared.fault.BookFault.{BookFault}
+use Rattle.book_refusals.specs.declared.fault.BookFault.TheVariants.{NoTicket, Memory}
+use Rattle.book_refusals.specs.Refusals.{Refusal, first, refuse_where, no_ticket}
+use Rattle.book_refusals.specs.Checks.{undo_refusal, redo_refusal, exchange_refusal}
 use Rattle.book.specs.Books.{Book}
-use Rattle.book.specs.Calls.{EntersNext, Lends, Undoes, Redoes, Exchanges}
-use Rattle.book.specs.Fault.{Tells, told_by}
-use Rattle.book.specs.declared.fault.BookFault.{BookFault}
-use Rattle.book.specs.declared.fault.BookFault.TheVariants.{NoTicket, Memory}
-use Rattle.book.specs.Refusals.{Refusal, first, budget_refusal, full_refusal, undo_refusal, redo_refusal, exchange_refusal, refuse_where, no_ticket}
+use Rattle.book.specs.Calls.{EntersNext, Lends, Undoes, Redoes, Exchanges, act_of}
+use Rattle.book.specs.Refusals.{budget_refusal, full_refusal}
 use Rattle.book.specs.Requests.{EntersRequest, request_refusal}
 use Rattle.book.specs.declared.request.Request.{Request}
 use Rattle.book.specs.declared.request.Request.TheVariants as request
@@ -73,9 +76,7 @@ mark_of _ = Nothing
 abbrev pub IsRequested : Request → Act → Type 0
 IsRequested (request.Birth x earlier script) act = act ≡ birth x earlier.items (program_of script)
 IsRequested (request.Ask x program) act = act ≡ ask x (program_of program)
-IsRequested (request.Arrive m) act = act ≡ arrive m
-IsRequested (request.Forward m) act = act ≡ forward m
-IsRequested (request.Learn v p) act = act ≡ learn v p
+IsRequested (request.Move m) act = act ≡ act_of m
 
 -- the act of the event that an instruction enters
 abbrev pub IsActOf : Instruction → Act → Type 0
@@ -95,13 +96,6 @@ abbrev pub Authored : Instruction → Held → Option EventName → Held → Typ
 Authored c old (Some e) now = (act : Act) × IsActOf c act × Adds (record { name = e; act = act }) old now
 Authored c old None now = EntersNone c × (now ≡ held old (mark_of c))
 
--- a step is an event of this act
-abbrev pub IsStep : Step → Act → Type 0
-IsStep (step.Arrive m) act = act ≡ arrive m
-IsStep (step.Forward m) act = act ≡ forward m
-IsStep (step.Learn v p) act = act ≡ learn v p
-IsStep (step.Turn m) act = ⊥
-
 -- the first that may be done in a book
 abbrev pub FirstIn : Book → Option Step → Type 0
 FirstIn b = First b.world (λ v. has_vat v b.out)
@@ -109,7 +103,7 @@ FirstIn b = First b.world (λ v. has_vat v b.out)
 -- what is picked for a seat: nothing may be done; or the first that may be done is done at once; or it is a turn, whose ticket is lent
 abbrev pub Picks : ℕ → ℕ → Pick → Book → Book → Type 0
 Picks budget seat pick.Nothing old now = FirstIn old None × (now ≡ old)
-Picks budget seat (pick.Moved e) old now = (s : Step) × (act : Act) × FirstIn old (Some s) × IsStep s act × EntersAct e act seat old now
+Picks budget seat (pick.Moved e) old now = (m : Move) × FirstIn old (Some (step.Move m)) × EntersAct e (act_of m) seat old now
 Picks budget seat (pick.Turn t) old now = (m : MsgId) × FirstIn old (Some (step.Turn m)) × Lends m budget seat t old now
 
 -- there is no room for the first that may be done: names are used up, or the journal has no room; of a turn the budget is tried first
@@ -124,7 +118,7 @@ RefusesPick budget b fault = (fault ≡ Memory) ⊎ ((s : Step) × FirstIn b (So
 -- what that does to the seat: an arrival, a forwarding or what a vat learns is added, or the ticket is open
 abbrev pub Picked : Pick → Held → Held → Type 0
 Picked pick.Nothing old now = now ≡ old
-Picked (pick.Moved e) old now = (s : Step) × (act : Act) × IsStep s act × Adds (record { name = e; act = act }) old now
+Picked (pick.Moved e) old now = (m : Move) × Adds (record { name = e; act = act_of m }) old now
 Picked (pick.Turn t) old now = (t.seat ≡ old.number) × (now ≡ held old (Opens t.event))
 
 -- the event that a ticket's turn becomes

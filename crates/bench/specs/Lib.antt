@@ -3,4 +3,3 @@ pub mod SharedBook
 pub mod SharedBookView
 pub mod Author
 pub mod Limits
-pub mod Workshop

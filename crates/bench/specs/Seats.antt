@@ -1,8 +1,8 @@
 -- What was entered from each seat.
-use Rattle.std.specs.Prelude.{◌≡◌, ℕ, ◌==◌, true, List, map, filter, count_by, All}
+use Rattle.std.specs.Prelude.{ℕ, ◌==◌, List, map, filter, count_by}
 use Rattle.world_cells.specs.Events.{Event}
 use Rattle.book.specs.Entered.{Entered}
-use Rattle.book_crew.specs.Work.{is_turn, is_work}
+use Rattle.book_crew.specs.Work.{is_turn}
 
 -- the events of a seat
 abbrev pub events_by : ℕ → List Entered → List Event
@@ -11,7 +11,3 @@ events_by seat entered = map (λ e. e.event) (filter (λ e. e.seat == seat) ente
 -- how many of the events are turns
 abbrev pub turns_in : List Event → ℕ
 turns_in events = count_by (λ e. is_turn e.act) events
-
--- each of the events is one that workers do
-abbrev pub AreWork : List Event → Type 0
-AreWork events = All (λ e. is_work e.act ≡ true) events

@@ -1,5 +1,5 @@
 -- What lies under the lock, and how the lists of the seats stand to it.
-use Rattle.std.specs.Prelude.{◌≡◌, ℕ, ◌+◌, ◌==◌, ◌≤◌, nat_lt, ◌&&◌, Bool, true, false, List, [], ◌∷◌, ◌++◌, map, length, slice_index_or, IsPermutation, refl}
+use Rattle.std.specs.Prelude.{◌≡◌, ℕ, ◌+◌, ◌==◌, nat_lt, ◌&&◌, Bool, true, false, List, [], ◌∷◌, ◌++◌, map, length, slice_index_or, IsPermutation, refl}
 use Rattle.std.specs.Coded.{Coded, code_by, coded×, coded_ℕ}
 use Rattle.std.specs.List.{AllByRecursion, list_any}
 use Rattle.ids.specs.declared.names.EventName.{EventName}
@@ -7,9 +7,9 @@ use Rattle.world_cells.specs.Events.{Event}
 use Rattle.world_cells.specs.EventView.{event_of}
 use Rattle.world_cells.specs.declared.event.Event as code
 use Rattle.desk.specs.Desks.{Lent, without}
+use Rattle.book_refusals.specs.declared.fault.BookFault.{BookFault}
+use Rattle.book_refusals.specs.declared.fault.BookFault.TheVariants as fault
 use Rattle.book.specs.Books.{Book}
-use Rattle.book.specs.declared.fault.BookFault.{BookFault}
-use Rattle.book.specs.declared.fault.BookFault.TheVariants as fault
 use Rattle.bench_pact.specs.declared.TokenView.{TokenView}
 use Rattle.bench_pact.specs.contracts.Deeds as deeds
 use Rattle.bench_pact.specs.declared.Deeds.{Deeds}

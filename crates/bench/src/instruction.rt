@@ -5,8 +5,8 @@ ghost use Rattle.bench.specs.Author.{Obeys, Refuses};
 
 use bench_pact::Act;
 use book::book::Book;
-use book::fault::BookFault;
 use book::request::Request;
+use book_refusals::fault::BookFault;
 use ids::names::EventName;
 
 /// What an author asks of a Bench: that a request is entered, or the call of the book of that name.

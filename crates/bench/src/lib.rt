@@ -1,33 +1,25 @@
 //! A book that several threads share, each with a seat.
 //!
 //! The book is the value of a lock. What a seat did is known to its holder, whatever the others do: the entries with its number are just the
-//! events of its list, each once. Turns are run outside of the lock and come back in any order; `work` has them run by workers, and the thread
-//! that called it alone gives them.
+//! events of its list, each once. Turns are run outside of the lock and come back in any order.
 #![tactic(auto)]
 
 ghost use Rattle.std.specs.Prelude.{◌≡◌, ◌≢◌, ◌<◌, ◌≤◌, ◌+◌, All, Err, IfOk, IfErr, IfSome, true, length, sum_by};
+ghost use Rattle.book_refusals.specs.declared.fault.BookFault.TheVariants.{NoTicket};
 ghost use Rattle.book.specs.BookView.{book_of};
-ghost use Rattle.book.specs.declared.fault.BookFault.TheVariants.{NoTicket};
 ghost use Rattle.bench_pact.specs.Agree.{blank};
 ghost use Rattle.book.specs.Entered.{entered_in, IsAmong};
 ghost use Rattle.bench.specs.SharedBook.{held, refused, Answers, Returns};
 ghost use Rattle.bench.specs.Author.{Authored, mark_of, turn_of, Picked};
 ghost use Rattle.book.specs.declared.book.TheConstants.{MOST_STEPS};
 
-mod errand;
 pub mod instruction;
 mod last;
-pub mod once;
 pub mod pick;
-pub mod pile;
 pub mod seat;
 pub mod start;
 pub mod theorems;
 pub mod under_lock;
-mod under_work;
-pub mod work;
-mod workplace;
-mod workshop;
 
 use crate::instruction::Instruction;
 use crate::pick::Pick;
@@ -36,7 +28,7 @@ use crate::start::Begun;
 use crate::under_lock::SharedBook;
 use bench_pact::PactCell;
 use book::book::Book;
-use book::fault::BookFault;
+use book_refusals::fault::BookFault;
 use ids::names::EventName;
 use std::sync::atomic::{AtomicU64, Ordering};
 use std::sync::ledger::Blank;
@@ -85,7 +77,7 @@ impl<L: Opening> Bench<L> {
     }
 
     /// As `checkout`, where turns are left to check out. The count of these is read and lowered under the same lock.
-    pub(crate) fn checkout_one<R: Wait>(
+    pub fn checkout_one<R: Wait>(
         &self,
         rt: &R,
         left: &AtomicU64,

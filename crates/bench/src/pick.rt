@@ -4,9 +4,9 @@ ghost use Rattle.book.specs.BookView.{book_of};
 ghost use Rattle.bench.specs.Author.{Picks, RefusesPick};
 
 use book::book::Book;
-use book::fault::BookFault;
 use book::request::Request;
 use book_agenda::agenda::Step;
+use book_refusals::fault::BookFault;
 use ids::names::EventName;
 use turn::ticket::{Out, Ticket};
 
@@ -30,16 +30,8 @@ pub(crate) fn pick_first(book: &mut Book, budget: u32, seat: u64) -> Result<Pick
         return Ok(Pick::Nothing);
     };
     match step {
-        Step::Arrive(message) => {
-            let event = book.arrive_as(message, seat)?;
-            Ok(Pick::Moved(event))
-        }
-        Step::Forward(message) => {
-            let event = book.forward_as(message, seat)?;
-            Ok(Pick::Moved(event))
-        }
-        Step::Learn(vat, promise) => {
-            let event = book.enter(Request::Learn(vat, promise), seat)?;
+        Step::Move(what) => {
+            let event = book.enter(Request::Move(what), seat)?;
             Ok(Pick::Moved(event))
         }
         Step::Turn(message) => {

@@ -1,5 +1,5 @@
 //! A book with the cell of a Bench that no type stands for yet.
-ghost use Rattle.std.specs.Prelude.{◌≡◌, ◌≤◌, IfOk, IfErr};
+ghost use Rattle.std.specs.Prelude.{◌≡◌, IfOk, IfErr};
 ghost use Rattle.book.specs.BookView.{book_of};
 ghost use Rattle.book.specs.Entered.{entered_in};
 ghost use Rattle.book_crew.specs.Work.{IsGreatestSeat};
@@ -57,7 +57,7 @@ impl Begun {
     }
 
     /// The cell, and the book that is to lie under the lock.
-    pub(crate) fn into_shared<L: Opening>(
+    pub fn into_shared<L: Opening>(
         self,
         budget: u32,
         blank: Blank,

@@ -1,11 +1,11 @@
 //! What lies under the lock: the book, and what is known of the seats.
 ghost use Rattle.std.specs.Prelude.{◌≡◌, ◌≢◌, ◌<◌, ◌≤◌, ◌+◌, ◌↔◌, [], All, IsTrue, IfOk, IfErr, IfSome, IfNone, Err, true, is_some, length, sum_by, vec_len};
 ghost use Rattle.crossbeam_utils.specs.Seq.{cell_view};
+ghost use Rattle.book_refusals.specs.declared.fault.BookFault.TheVariants.{NoTicket};
 ghost use Rattle.book.specs.BookView.{book_of};
 ghost use Rattle.book.specs.Calls.{Commits};
 ghost use Rattle.desk.specs.Desks.{without};
-ghost use Rattle.book.specs.Fault.{TellsCommit};
-ghost use Rattle.book.specs.declared.fault.BookFault.TheVariants.{NoTicket};
+ghost use Rattle.book.specs.TurnFaults.{TellsCommit};
 ghost use Rattle.bench_pact.specs.declared.Act.TheVariants.{Closes};
 ghost use Rattle.bench_pact.specs.Agree.{blank, knower};
 ghost use Rattle.book.specs.Entered.{entered_in, IsAmong};
@@ -19,7 +19,7 @@ use crate::pick::{Pick, pick_first};
 use crate::seat::{Opening, Seat};
 use bench_pact::{Act, PactCell, PactToken, add};
 use book::book::Book;
-use book::fault::BookFault;
+use book_refusals::fault::BookFault;
 use ids::names::EventName;
 use std::marker::{Model, PhantomData};
 use std::sync::Wait;

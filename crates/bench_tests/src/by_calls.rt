@@ -9,8 +9,9 @@ use bench::instruction::Instruction;
 use bench::pick::Pick;
 use bench::seat::{Opening, Seat};
 use bench::start::Begun;
-use book::fault::BookFault;
 use book::request::Request;
+use book_agenda::agenda::Move;
+use book_refusals::fault::BookFault;
 use ids::names::{EventName, PromId};
 use std::marker::Brand;
 use std::process::Abort;
@@ -231,7 +232,7 @@ fn moving_world<L: Opening, R: Wait + Abort + AllocGlobal>(
     author(
         rt,
         &bench,
-        Instruction::Enter(Request::Learn(vat(5), opening)),
+        Instruction::Enter(Request::Move(Move::Learn(vat(5), opening))),
         &mut author_seat,
         Some(17),
     );

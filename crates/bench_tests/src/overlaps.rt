@@ -5,10 +5,11 @@ ghost use Rattle.book.specs.Entered.{entered_in};
 
 use crate::books::{BUDGET, asked, begun, birth};
 use bench::Bench;
-use bench::once::work_once;
 use bench::seat::Opening;
 use bench::start::Begun;
-use bench::work::{Gate, NoGate, Worked};
+use bench_work::errand::work_at_bench;
+use bench_work::once::work_once;
+use bench_work::work::{Gate, NoGate, Worked};
 use book::book::Book;
 use ids::names::{EventName, MsgId};
 use journal::entry::Mark;
@@ -102,7 +103,8 @@ fn overlap<L: Opening + Send + Sync, R: Threads + Wait + Clock + Abort + AllocGl
         gave_up: AtomicBool::new(false),
     };
     let bench = Bench::<L>::new(begun, BUDGET, blank, parts);
-    let Ok(Worked { seats, turns }) = bench.work(rt, rt.alloc(), vats, vats as u64, &gate) else {
+    let worked = work_at_bench(rt, rt.alloc(), &bench, vats, vats as u64, &gate);
+    let Ok(Worked { seats, turns }) = worked else {
         return rt.panic("no work");
     };
     assert!(rt; turns == vats as u64);

@@ -8,7 +8,7 @@ use Rattle.ids.specs.declared.names.PromId.{PromId}
 use Rattle.ids.specs.declared.names.EventName.{EventName}
 use Rattle.ids.specs.declared.cells.CellKey.TheVariants as key
 use Rattle.heap.specs.State as heap
-use Rattle.heap.specs.State.{pending, resolved, view_cell}
+use Rattle.heap.specs.State.{pending, resolved}
 use Rattle.post.specs.Delivery.{Delivery, Call, opening, asked, sent, waiting}
 use Rattle.post.specs.Messages.{Message, Place, Published, at_vat, flying, flies_to, waits_at, arrived, forwarded}
 use Rattle.world_cells.specs.Events.{arrive, forward, learn}
@@ -22,9 +22,10 @@ use Rattle.event.specs.Walks.{board_walk}
 use Rattle.event.specs.declared.ready.Unready.{Unready}
 use Rattle.event.proofs.Noted.{quietly}
 use Rattle.book_agenda.specs.Agendas.{can_learn, is_open, open_view}
+use Rattle.book_refusals.specs.Refusals.{Refusal, first, refuse_where, no_message, not_there, not_ready, nothing_to_learn, refusal_of}
 use Rattle.book.specs.Books.{Book}
 use Rattle.book.specs.Calls.{AdmitsArrival, AdmitsForward, CanLearn}
-use Rattle.book.specs.Refusals.{Refusal, first, refuse_where, no_message, not_there, not_ready, nothing_to_learn, refusal_of, arrival_refusal, arrival_refusal_by, onward_refusal, forward_refusal, learning_refusal, full_refusal}
+use Rattle.book.specs.Refusals.{arrival_refusal, arrival_refusal_by, onward_refusal, forward_refusal, learning_refusal, full_refusal}
 use Rattle.book.proofs.Checkouts.{next_is, none_mapped}
 use Rattle.book.proofs.Within.{neither}
 

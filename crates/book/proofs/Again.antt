@@ -15,9 +15,10 @@ use Rattle.causality.proofs.Exactness.{lacks_of_sound}
 use Rattle.causality.proofs.Firsts.{some_mapped, some_same, some_none, cond_none}
 use Rattle.causality.proofs.Telling.{Tells}
 use Rattle.undo.proofs.Settling.{map_take}
+use Rattle.book_refusals.specs.Refusals.{Refusal, first, no_event, is_settled, still_live, cause_missing, crossed}
+use Rattle.book_refusals.specs.Checks.{gap_refusal, missing_refusal, settled_refusal, closed_refusal, undo_refusal, redo_refusal}
 use Rattle.book.specs.Books.{Book}
 use Rattle.book.specs.Calls.{undone, undone_in, SameSet, Undoes}
-use Rattle.book.specs.Refusals.{Refusal, first, no_event, is_settled, still_live, cause_missing, crossed, gap_refusal, missing_refusal, settled_refusal, closed_refusal, undo_refusal, redo_refusal}
 use Rattle.book.proofs.Choosing.{neither}
 use Rattle.book.proofs.Undoing.{live_set_of}
 

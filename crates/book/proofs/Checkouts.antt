@@ -14,10 +14,11 @@ use Rattle.event.specs.declared.ready.Delay.TheVariants as delay
 use Rattle.event.specs.declared.ready.Unready.{Unready}
 use Rattle.event.specs.declared.ready.Unready.TheVariants as why
 use Rattle.desk.specs.Desks.{has_vat}
+use Rattle.book_refusals.specs.Fault.{delay_tells}
+use Rattle.book_refusals.specs.Refusals.{Refusal, first, refuse_where, vat_out, refusal_of}
 use Rattle.book.specs.Books.{Book}
-use Rattle.book.specs.Fault.{delay_tells}
 use Rattle.book.proofs.Choosing.{neither}
-use Rattle.book.specs.Refusals.{Refusal, first, refuse_where, vat_out, refusal_of, budget_refusal, message_out, vat_at_is_out, full_refusal, checkout_refusal}
+use Rattle.book.specs.Refusals.{budget_refusal, message_out, vat_at_is_out, full_refusal, checkout_refusal}
 
 -- the first does not refuse, so it is the next that counts
 pub next_is : (a b : Option Refusal) → a ≡ None → first a b ≡ b

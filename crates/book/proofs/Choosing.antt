@@ -28,8 +28,8 @@ use Rattle.undo.specs.CoreView.{items_of, state_of}
 use Rattle.undo.specs.Standing.{CoreStands, places}
 use Rattle.undo.specs.declared.undoing.Core.{Core}
 use Rattle.desk.specs.Desks.{Lent}
+use Rattle.book_refusals.specs.Refusals.{Refusal, first}
 use Rattle.book.specs.Standing.{Stands}
-use Rattle.book.specs.Refusals.{Refusal, first}
 
 -- neither refuses
 pub neither : (a b : Option Refusal) → first a b ≡ None → (a ≡ None) × (b ≡ None)

@@ -37,9 +37,10 @@ use Rattle.turn.specs.declared.ticket.Task.{Task}
 use Rattle.turn.specs.declared.ticket.Ran.{Ran}
 use Rattle.undo.specs.CoreView.{shown, state_of}
 use Rattle.undo.specs.declared.undoing.Core.{Core}
+use Rattle.book_refusals.specs.Refusals.{refuse_where, refusal_of, vat_out}
 use Rattle.book.specs.Books.{Book}
 use Rattle.book.specs.Calls.{lent_of, Lends, IsKnown, IsFresh, LeadsAsBefore, EntersTurn, turn_in, Commits, TurnsNext}
-use Rattle.book.specs.Refusals.{refuse_where, refusal_of, budget_refusal, message_out, vat_out, journal_full, checkout_refusal}
+use Rattle.book.specs.Refusals.{budget_refusal, message_out, journal_full, checkout_refusal}
 use Rattle.book.specs.Standing.{Kept, Stands}
 use Rattle.book.proofs.Entering.{book_with, book_enters, book_stands, kept_entered}
 use Rattle.book.proofs.Within.{neither, room_for_names}

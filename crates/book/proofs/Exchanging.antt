@@ -14,10 +14,9 @@ use Rattle.ids.specs.declared.names.EventName.{EventName}
 use Rattle.world_cells.specs.Theory.{cells}
 use Rattle.event.specs.Events.{DoesNoted, noted_events}
 use Rattle.event.proofs.Law.{noted_laws}
-use Rattle.journal.specs.Items.{Item, item_of, wrote_one_of, may_exchange, neighbours, exchanged}
+use Rattle.journal.specs.Items.{Item, wrote_one_of, may_exchange, neighbours, exchanged}
 use Rattle.journal.specs.Lines.{plain, Line, line_of, lines_of, in_order}
 use Rattle.journal.specs.Standing.{ItemsStand, told, row_told}
-use Rattle.journal.specs.declared.entry.Entry.{Entry}
 use Rattle.journal.proofs.Exchanging.{lines_exchanged}
 use Rattle.journal.proofs.Reversed.{all_unmapped}
 use Rattle.causality.specs.Journals.{IsJournal}
@@ -29,8 +28,9 @@ use Rattle.undo.specs.Standing.{CoreStands}
 use Rattle.undo.specs.declared.undoing.Core.{Core}
 use Rattle.undo.proofs.Neighbours.{exchanges}
 use Rattle.desk.specs.Desks.{Lent}
-use Rattle.book.specs.Calls.{Exchanges, StoodAt}
-use Rattle.book.specs.Refusals.{first, refuse_where, dependent, neighbours_by, settled_at, undone_neighbour, dependent_neighbour, placed_refusal, exchange_refusal}
+use Rattle.book_refusals.specs.Refusals.{first, refuse_where, dependent}
+use Rattle.book_refusals.specs.Checks.{StoodAt, neighbours_by, settled_at, undone_neighbour, dependent_neighbour, placed_refusal, exchange_refusal}
+use Rattle.book.specs.Calls.{Exchanges}
 use Rattle.book.specs.Standing.{Kept, Stands}
 use Rattle.book.proofs.Entering.{book_with, stands_same}
 use Rattle.book.proofs.Sets.{Lines-set}

@@ -15,11 +15,11 @@ use Rattle.event.specs.declared.ready.Unready.{Unready}
 use Rattle.event.specs.declared.ready.Way.{Way}
 use Rattle.turn.specs.declared.ticket.Task.{Task}
 use Rattle.turn.specs.declared.ticket.Ran.{Ran}
+use Rattle.book_refusals.specs.declared.fault.BookFault.{BookFault}
+use Rattle.book_refusals.specs.declared.fault.BookFault.TheVariants as fault
 use Rattle.book.specs.Books.{Book}
 use Rattle.book.specs.Calls.{IsKnown, IsFresh, LeadsAsBefore, turn_in, changed}
-use Rattle.book.specs.Fault.{TellsLost, TellsStale, TellsCommit}
-use Rattle.book.specs.declared.fault.BookFault.{BookFault}
-use Rattle.book.specs.declared.fault.BookFault.TheVariants as fault
+use Rattle.book.specs.TurnFaults.{TellsLost, TellsStale, TellsCommit}
 use Rattle.book.proofs.Checkouts.{nothing_unready}
 
 module _ (w : World) (t : Task) where

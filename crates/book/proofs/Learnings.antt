@@ -8,13 +8,14 @@ use Rattle.world_cells.specs.Events.{learn}
 use Rattle.world_cells.specs.World.{vat_named}
 use Rattle.event.specs.Events.{Foot}
 use Rattle.book_agenda.specs.Agendas.{KnownAs, can_learn}
+use Rattle.book_refusals.specs.Fault.{Tells}
+use Rattle.book_refusals.specs.Refusals.{Refusal, no_vat, nothing_to_learn}
+use Rattle.book_refusals.specs.declared.fault.BookFault.{BookFault}
+use Rattle.book_refusals.specs.declared.fault.BookFault.TheVariants as fault
 use Rattle.book.specs.Books.{Book}
 use Rattle.book.specs.Calls.{EntersNext}
-use Rattle.book.specs.Fault.{Tells}
 use Rattle.book.specs.Learning.{LearnsNamed, nothing_named, not_entered, TellsNamed}
-use Rattle.book.specs.Refusals.{Refusal, no_vat, nothing_to_learn, learn_refusal, learn_refusal_by, learning_refusal}
-use Rattle.book.specs.declared.fault.BookFault.{BookFault}
-use Rattle.book.specs.declared.fault.BookFault.TheVariants as fault
+use Rattle.book.specs.Refusals.{learn_refusal, learn_refusal_by, learning_refusal}
 use Rattle.book.proofs.Admitting.{cannot_learn}
 
 module _ (b : Book) (x : Name) where

@@ -9,7 +9,6 @@ pub mod Running
 pub mod Settling
 pub mod Undoing
 pub mod Redoing
-pub mod Placed
 pub mod Exchanging
 pub mod GivingBack
 pub mod Again
@@ -25,4 +24,3 @@ pub mod Committing
 pub mod Good
 pub mod Ordered
 pub mod Births
-pub mod Words

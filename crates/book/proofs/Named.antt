@@ -6,7 +6,8 @@ use Rattle.post.specs.Messages.{Vat}
 use Rattle.world_cells.specs.World.{World, vat_named}
 use Rattle.event.specs.Events.{AreNamed}
 use Rattle.event.specs.Naming.{Numbers}
-use Rattle.book.specs.Refusals.{first, no_vat, absent_refusal, named_refusal}
+use Rattle.book_refusals.specs.Refusals.{first, no_vat}
+use Rattle.book.specs.Refusals.{absent_refusal, named_refusal}
 
 -- where all are there, none is refused
 all_named : (w : World) (xs : List Name) (vs : List Vat) → AreNamed w xs vs → named_refusal w xs ≡ None

@@ -1,5 +1,5 @@
 -- An agenda keeps its notes where nothing is shown anew, and has those of the next world once an event's cells are noted.
-use Rattle.std.proofs.Common.{◌≡◌, ℕ, false, true, List, map, reverse, Option, Some, None, refl, sym, ap, ◌∙◌, subst}
+use Rattle.std.proofs.Common.{◌≡◌, ℕ, false, true, List, map, reverse, Option, Some, None, sym, ap, ◌∙◌, subst}
 use Rattle.std.specs.Option.{ForSome}
 use Rattle.history.specs.Records.{Seen, State, Record, contents}
 use Rattle.history.specs.Walks.{walk}

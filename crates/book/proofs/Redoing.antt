@@ -26,8 +26,9 @@ use Rattle.undo.specs.declared.undoing.Core.{Core}
 use Rattle.undo.proofs.Standing.{redoes}
 use Rattle.desk.specs.Desks.{Lent}
 use Rattle.event.specs.Runs.{PlainRun}
+use Rattle.book_refusals.specs.Refusals.{still_live, cause_missing, crossed}
+use Rattle.book_refusals.specs.Checks.{closed_refusal, live_refusal, redo_refusal, gap_refusal}
 use Rattle.book.specs.Calls.{Redoes, redone_in, live_events}
-use Rattle.book.specs.Refusals.{closed_refusal, live_refusal, redo_refusal, gap_refusal, still_live, cause_missing, crossed}
 use Rattle.book.specs.Standing.{Kept, Stands}
 use Rattle.book.proofs.Entering.{book_with}
 use Rattle.book.proofs.Sets.{Lines-set}

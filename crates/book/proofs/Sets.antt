@@ -24,7 +24,7 @@ pattern_lists : IsSet (List Pattern)
 pattern_lists = hlevel (props, patterns)
 
 trees : IsSet Trees
-trees = Trees-set (hlevel props) (hlevel props) names patterns pattern_lists
+trees = Trees-set (hlevel props) (hlevel props) names patterns pattern_lists (hlevel props)
 
 value_lists : IsSet Vals
 value_lists = Vals-set (hlevel props) (hlevel props) names (hlevel props) (hlevel props) (hlevel props)

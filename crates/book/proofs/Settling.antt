@@ -1,5 +1,5 @@
 -- The base of a book, and what is settled.
-use Rattle.std.proofs.Common.{◌≡◌, ℕ, zero, suc, ◌+◌, ◌≤◌, Bool, List, [], ◌∷◌, ◌++◌, All, length, map, filter, take, drop, reverse, refl, sym, ap, ap₂, ◌∙◌, subst, arith, Result, Ok, Err, OnOk, OnErr}
+use Rattle.std.proofs.Common.{◌≡◌, ℕ, zero, suc, ◌+◌, ◌≤◌, List, [], ◌∷◌, ◌++◌, All, length, map, filter, take, drop, reverse, refl, sym, ap, ap₂, ◌∙◌, subst, arith, Result, Ok, Err, OnOk, OnErr}
 use Rattle.std.proofs.Math.Logic.{∥∥₁_elim, ∥∥₁_prop}
 use Rattle.std.proofs.lemmas.List.{map-append, reverse-append, take-append-drop, length-map}
 use Rattle.std.proofs.lemmas.List.Elements.{All-nil, All-cons, All-head, All-tail, filter-append}
@@ -17,11 +17,11 @@ use Rattle.journal.specs.Journals.{items_of as journal_items, settled_item}
 use Rattle.journal.specs.Lines.{Line, lines_of}
 use Rattle.journal.specs.declared.journal.Journal.{Journal}
 use Rattle.causality.specs.Selections.{is_live}
-use Rattle.undo.specs.CoreView.{items_of, open_of, settled_of, state_of, shown}
+use Rattle.undo.specs.CoreView.{items_of, open_of, settled_of, shown}
 use Rattle.undo.specs.declared.undoing.Core.{Core}
 use Rattle.desk.specs.Desks.{Lent}
 use Rattle.book.specs.Books.{Book}
-use Rattle.book.specs.Calls.{live_events, IsBase, RunsFromBase, Settles, BaseGoesOn}
+use Rattle.book.specs.Calls.{live_events, RunsFromBase, Settles, BaseGoesOn}
 use Rattle.book.proofs.Entering.{book_with}
 use Rattle.book.proofs.Sets.{World-set}
 

@@ -27,8 +27,9 @@ use Rattle.undo.specs.declared.undoing.Core.{Core}
 use Rattle.undo.proofs.Standing.{undoes}
 use Rattle.desk.specs.Desks.{Lent}
 use Rattle.event.specs.Runs.{PlainRun}
+use Rattle.book_refusals.specs.Refusals.{not_live, not_closed}
+use Rattle.book_refusals.specs.Checks.{closed_refusal, undone_refusal, undo_refusal, gap_refusal}
 use Rattle.book.specs.Calls.{Undoes, undone_in, live_events, rest_of}
-use Rattle.book.specs.Refusals.{closed_refusal, undone_refusal, undo_refusal, gap_refusal, not_live, not_closed}
 use Rattle.book.specs.Standing.{Kept, Stands}
 use Rattle.book.proofs.Entering.{book_with}
 use Rattle.book.proofs.Sets.{Lines-set}

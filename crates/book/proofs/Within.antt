@@ -15,7 +15,8 @@ use Rattle.journal.specs.Items.{Item, entered, exchanged}
 use Rattle.journal.specs.Lines.{Line, line_of, lines_of}
 use Rattle.undo.specs.CoreView.{items_of, settled_of, state_of, shown}
 use Rattle.undo.specs.declared.undoing.Core.{Core}
-use Rattle.book.specs.Refusals.{Refusal, first, refuse_where, full, journal_full, full_refusal, check_refusal, taken_refusal, named_refusal, birth_refusal, ask_refusal, ask_refusal_by}
+use Rattle.book_refusals.specs.Refusals.{Refusal, first, refuse_where, full}
+use Rattle.book.specs.Refusals.{journal_full, full_refusal, check_refusal, taken_refusal, named_refusal, birth_refusal, ask_refusal, ask_refusal_by}
 use Rattle.book.specs.Books.{Book, open_count}
 use Rattle.book.specs.declared.book.TheConstants.{LAST_NAME, MOST_ENTRIES}
 

@@ -1,8 +1,7 @@
 -- What the accepted calls of a book do.
-use Rattle.std.specs.Prelude.{◌≡◌, ℕ, ◌+◌, ◌≤◌, true, ◌&&◌, ◌||◌, not, List, [], ◌∷◌, ◌++◌, map, filter, reverse, drop, is_some, Some, None, Contains, slice_get}
+use Rattle.std.specs.Prelude.{◌≡◌, ℕ, ◌+◌, ◌≤◌, true, ◌&&◌, ◌||◌, not, List, [], ◌∷◌, ◌++◌, map, filter, reverse, drop, is_some, Some, None, Contains}
 use Rattle.std.specs.List.{AllByRecursion}
 use Rattle.std.specs.Arc.{arc_value}
-use Rattle.std.specs.Option.{option_map}
 use Rattle.history.specs.Subject.{after, new, touches}
 use Rattle.history.specs.Journal.{causes_of}
 use Rattle.ids.specs.declared.names.EventName.{EventName}
@@ -15,7 +14,7 @@ use Rattle.heap.specs.State as heap
 use Rattle.heap.specs.State.{Cell, pending, view_cell}
 use Rattle.heap.specs.View.{state_of}
 use Rattle.heap.specs.Found.{Found}
-use Rattle.world_cells.specs.Events.{Event, birth, ask, arrive, forward, learn, turn, Noted, event_in, with_notes}
+use Rattle.world_cells.specs.Events.{Act, Event, birth, ask, arrive, forward, learn, turn, Noted, event_in, with_notes}
 use Rattle.post.specs.MessageView.{message_of}
 use Rattle.post.specs.declared.message.Message as code-message
 use Rattle.world_cells.specs.World as world
@@ -27,6 +26,8 @@ use Rattle.event.specs.Forwarding.{onward_of}
 use Rattle.event.specs.Naming.{Numbers}
 use Rattle.event.specs.Ready.{leads_there, first_undone}
 use Rattle.event.specs.Walks.{awaited, found_by}
+use Rattle.book_agenda.specs.declared.agenda.Move.{Move}
+use Rattle.book_agenda.specs.declared.agenda.Move.TheVariants as move
 use Rattle.turn_deliveries.specs.Outcomes.{found_of}
 use Rattle.turn_deliveries.specs.declared.lead.Lead.{Lead}
 use Rattle.event.specs.Runs.{RunFrom, PlainRun}
@@ -37,10 +38,12 @@ use Rattle.turn.specs.declared.ticket.Task.{Task}
 use Rattle.turn.specs.declared.ticket.Ran.{Ran}
 use Rattle.journal.specs.Lines.{plain, Line, entries_in, in_order}
 use Rattle.journal.specs.Items.{exchanged}
-use Rattle.causality.specs.Selections.{name_of, is_live, chosen}
+use Rattle.causality.specs.Selections.{is_live, chosen}
 use Rattle.desk.specs.Desks.{Lent, without}
+use Rattle.book_refusals.specs.Refusals.{Refusal, no_ticket, stale, full}
+use Rattle.book_refusals.specs.Checks.{undo_refusal}
 use Rattle.book.specs.Books.{Book, settled_lines, open_lines}
-use Rattle.book.specs.Refusals.{Refusal, no_ticket, stale, full, journal_full, birth_refusal, ask_refusal, arrival_refusal, forward_refusal, learn_refusal, learning_refusal, undo_refusal, checkout_refusal}
+use Rattle.book.specs.Refusals.{journal_full, birth_refusal, ask_refusal, arrival_refusal, forward_refusal, learn_refusal, learning_refusal, move_refusal, checkout_refusal}
 use Rattle.book.specs.declared.book.TheConstants.{LAST_NAME}
 
 -- the line of a new event from a seat: it has the event's notes, it is live, it has the cells that its footprint touches and writes, and as
@@ -94,19 +97,17 @@ abbrev pub Asks : Name → Trees → ℕ → EventName → Book → Book → Typ
 Asks x program seat e old now =
     (ask_refusal old x program ≡ None) × ((v : VatNo) × EntersNext (record { name = e; act = ask x program }) (ask_foot e x v program) seat old now)
 
--- a message arrives, from a seat
-abbrev pub Arrives : MsgId → ℕ → EventName → Book → Book → Type 0
-Arrives m seat e old now = (arrival_refusal old m ≡ None) × ((f : Foot) × EntersNext (record { name = e; act = arrive m }) f seat old now)
+-- the act of a move
+abbrev pub act_of : Move → Act
+act_of (move.Arrive m) = arrive m
+act_of (move.Forward m) = forward m
+act_of (move.Learn v p) = learn v p
 
--- a message goes on, from a seat
-abbrev pub Forwards : MsgId → ℕ → EventName → Book → Book → Type 0
-Forwards m seat e old now = (forward_refusal old m ≡ None) × ((f : Foot) × EntersNext (record { name = e; act = forward m }) f seat old now)
+-- a move is made, from a seat: a message arrives or goes on, or a vat learns what a promise was published as
+abbrev pub Makes : Move → ℕ → EventName → Book → Book → Type 0
+Makes m seat e old now = (move_refusal old m ≡ None) × ((f : Foot) × EntersNext (record { name = e; act = act_of m }) f seat old now)
 
--- a vat learns what a promise was published as, from a seat
-abbrev pub LearnsAt : VatNo → PromId → ℕ → EventName → Book → Book → Type 0
-LearnsAt v p seat e old now = (learning_refusal old v p ≡ None) × ((f : Foot) × EntersNext (record { name = e; act = learn v p }) f seat old now)
-
--- and so does the vat of this name
+-- the vat of this name learns what a promise was published as, from a seat
 abbrev pub Learns : Name → PromId → ℕ → EventName → Book → Book → Type 0
 Learns x p seat e old now =
     (learn_refusal old x p ≡ None)
@@ -272,10 +273,6 @@ pub record Exchanges (position : ℕ) (old now : Book) : Type 0 where
   pub same_settled : now.settled ≡ old.settled
   pub same_next : now.next ≡ old.next
   pub same_out : now.out ≡ old.out
-
--- the events of the entry at a position, counted from 1, and of the one behind it
-abbrev pub StoodAt : ℕ → List Line → EventName → EventName → Type 0
-StoodAt position lines e f = (n : ℕ) → position ≡ n + 1 → (option_map name_of (slice_get lines n) ≡ Some e) × (option_map name_of (slice_get lines (n + 1)) ≡ Some f)
 
 -- two lists name the same events of a journal, in any order and however often
 abbrev pub SameSet : List EventName → List EventName → List Line → Type 0

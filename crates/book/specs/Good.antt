@@ -11,9 +11,9 @@ use Rattle.world_cells.specs.Events.{Event, event_in}
 use Rattle.world_cells.specs.World.{World, empty, vat_named}
 use Rattle.event.specs.Events.{Foot, DoesNoted, events}
 use Rattle.journal.specs.Lines.{plain, entries_in}
+use Rattle.book_refusals.specs.Checks.{missing_refusal, redo_refusal, undo_refusal}
 use Rattle.book.specs.Books.{Book, open_count, settled_lines}
 use Rattle.book.specs.Calls.{SameSet, Undoes}
-use Rattle.book.specs.Refusals.{missing_refusal, redo_refusal, undo_refusal}
 use Rattle.book.specs.declared.book.TheConstants.{MOST_ENTRIES}
 
 -- each cause of an entry is the event of an older one, the newest first

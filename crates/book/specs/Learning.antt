@@ -9,12 +9,13 @@ use Rattle.post.specs.Messages.{Vat}
 use Rattle.world_cells.specs.Events.{learn}
 use Rattle.world_cells.specs.World.{vat_named}
 use Rattle.event.specs.Events.{Foot}
+use Rattle.book_refusals.specs.Fault.{Tells}
+use Rattle.book_refusals.specs.Refusals.{Refusal}
+use Rattle.book_refusals.specs.declared.fault.BookFault.{BookFault}
 use Rattle.book.specs.Books.{Book}
 use Rattle.book.specs.Calls.{EntersNext}
-use Rattle.book.specs.Fault.{Tells}
 use Rattle.book_agenda.specs.Agendas.{can_learn}
-use Rattle.book.specs.Refusals.{Refusal, learn_refusal, learning_refusal}
-use Rattle.book.specs.declared.fault.BookFault.{BookFault}
+use Rattle.book.specs.Refusals.{learn_refusal, learning_refusal}
 
 -- a promise of this event and number, wherever its home is
 abbrev pub IsNumbered : EventName → ℕ → PromId → Type 0

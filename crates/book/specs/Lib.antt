@@ -2,7 +2,7 @@ pub mod BookView
 pub mod Books
 pub mod Calls
 pub mod Entered
-pub mod Fault
+pub mod TurnFaults
 pub mod Good
 pub mod Learning
 pub mod Limits

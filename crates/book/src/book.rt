@@ -18,6 +18,7 @@ ghost use Rattle.event.specs.Naming.{Numbers};
 ghost use Rattle.book_agenda.specs.Agendas.{AlikeBut, KnownAs, can_learn};
 ghost use Rattle.book_agenda.specs.AgendaView.{NotedIn};
 ghost use Rattle.book_agenda.specs.Enabled.{Enabled, First};
+ghost use Rattle.book_agenda.specs.declared.agenda.Move.TheVariants.{Arrive, Forward, Learn};
 ghost use Rattle.event.specs.Effects.{Happens};
 ghost use Rattle.event.specs.Runs.{PlainRun};
 ghost use Rattle.journal.specs.Journals.{items_of};
@@ -26,18 +27,19 @@ ghost use Rattle.causality.specs.Journals.{IsJournal};
 ghost use Rattle.undo.specs.CoreView.{items_of as core_items, settled_of, state_of};
 ghost use Rattle.desk.specs.Desks.{has_vat};
 ghost use Rattle.desk.specs.DeskView.{out_of};
-ghost use Rattle.book.specs.Refusals.{birth_refusal, ask_refusal, arrival_refusal, forward_refusal, named_refusal, learn_refusal, learning_refusal, nothing_to_learn, refuse_where, full_refusal, check_refusal, taken_refusal};
+ghost use Rattle.book_refusals.specs.Refusals.{nothing_to_learn, refuse_where};
+ghost use Rattle.book_refusals.specs.Fault.{Tells};
+ghost use Rattle.book.specs.Refusals.{birth_refusal, ask_refusal, arrival_refusal, forward_refusal, named_refusal, learn_refusal, learning_refusal, full_refusal, check_refusal, taken_refusal};
 ghost use Rattle.book.specs.Books.{blank};
-ghost use Rattle.book.specs.Calls.{EntersNext, AdmitsAsk, AdmitsBirth, Arrives, Asks, Births, Forwards, Learns, LearnsAt, AdmitsArrival, AdmitsForward, AdmitsLearning, CanLearn, RunsFromBase, live_events};
-ghost use Rattle.book.specs.Fault.{Tells};
+ghost use Rattle.book.specs.Calls.{EntersNext, AdmitsAsk, AdmitsBirth, Asks, Births, Learns, Makes, AdmitsArrival, AdmitsForward, AdmitsLearning, CanLearn, RunsFromBase, live_events};
 ghost use Rattle.book.specs.Learning.{LearnsNamed, TellsNamed};
 ghost use Rattle.book.specs.Standing.{Stands};
 ghost use Rattle.book.specs.declared.book.TheConstants.{MOST_ENTRIES};
 ghost use Rattle.ids.specs.declared.cells.CellKey.TheVariants as key;
 
-use crate::fault::{BookFault, unready_fault};
 use crate::seats::greatest_seat;
 use book_agenda::agenda::{Agenda, Step, is_open};
+use book_refusals::fault::{BookFault, unready_fault};
 use desk::desk::Desk;
 use event::effects::{Effects, ask_effects, birth_effects, learn_effects, move_effects};
 use event::forwarding::{Destination, onward};
@@ -356,7 +358,7 @@ impl Book {
     /// # Errors
     /// `NoMessage`, `NotThere`, `Full`, `Memory`, tried in this order.
     pub fn arrive_as(&mut self, name: MsgId, seat: u64) -> Result<EventName, BookFault>
-        ensures ok { IfOk result (λ e. Arrives name seat e (book_of self.old) (book_of self.new)) }
+        ensures ok { IfOk result (λ e. Makes (Arrive name) seat e (book_of self.old) (book_of self.new)) }
         ensures err { IfErr result (λ fault. Tells fault (arrival_refusal (book_of self.old) name)) }
         ensures unchanged { OnErr result (book_of self.new ≡ book_of self.old) }
         ensures counted { OnOk result (CountsNew self.old self.new) }
@@ -401,7 +403,7 @@ impl Book {
     /// # Errors
     /// `NoMessage`, `NotThere`, `NotReady`, `Full`, `Memory`, tried in this order.
     pub fn forward_as(&mut self, name: MsgId, seat: u64) -> Result<EventName, BookFault>
-        ensures ok { IfOk result (λ e. Forwards name seat e (book_of self.old) (book_of self.new)) }
+        ensures ok { IfOk result (λ e. Makes (Forward name) seat e (book_of self.old) (book_of self.new)) }
         ensures err { IfErr result (λ fault. Tells fault (forward_refusal (book_of self.old) name)) }
         ensures unchanged { OnErr result (book_of self.new ≡ book_of self.old) }
         ensures counted { OnOk result (CountsNew self.old self.new) }
@@ -476,7 +478,7 @@ impl Book {
         promise: PromId,
         seat: u64,
     ) -> Result<EventName, BookFault>
-        ensures ok { IfOk result (λ e. LearnsAt vat promise seat e (book_of self.old) (book_of self.new)) }
+        ensures ok { IfOk result (λ e. Makes (Learn vat promise) seat e (book_of self.old) (book_of self.new)) }
         ensures err { IfErr result (λ fault. Tells fault (learning_refusal (book_of self.old) vat promise)) }
         ensures unchanged { OnErr result (book_of self.new ≡ book_of self.old) }
         ensures counted { OnOk result (CountsNew self.old self.new) }

@@ -2,7 +2,6 @@
 #![tactic(auto)]
 
 pub mod book;
-pub mod fault;
 pub mod request;
 mod seatless;
 mod seats;

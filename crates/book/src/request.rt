@@ -1,11 +1,12 @@
 // What a book can be asked to enter.
 ghost use Rattle.std.specs.Prelude.{◌≡◌, IfOk, IfErr, OnOk, OnErr};
-ghost use Rattle.book.specs.Fault.{Tells};
+ghost use Rattle.book_refusals.specs.Fault.{Tells};
 ghost use Rattle.book.specs.Requests.{EntersRequest, request_refusal};
 
 use crate::book::Book;
-use crate::fault::BookFault;
-use ids::names::{EventName, MsgId, PromId, VatNo};
+use book_agenda::agenda::Move;
+use book_refusals::fault::BookFault;
+use ids::names::EventName;
 use ids::text::Text;
 use kernele::tree::Program;
 
@@ -16,12 +17,8 @@ pub enum Request {
     Birth(Text, Vec<Text>, Program),
     /// A program for the vat of this name.
     Ask(Text, Program),
-    /// A message on its way arrives.
-    Arrive(MsgId),
-    /// A message goes on to the vat to which its target leads.
-    Forward(MsgId),
-    /// A vat learns what a promise was published as.
-    Learn(VatNo, PromId),
+    /// A message arrives or goes on, or a vat learns something.
+    Move(Move),
 }
 
 impl Book {
@@ -42,9 +39,9 @@ impl Book {
         match request {
             Request::Birth(name, earlier, script) => self.birth_as(&name, earlier, script, seat),
             Request::Ask(name, program) => self.ask_as(&name, program, seat),
-            Request::Arrive(message) => self.arrive_as(message, seat),
-            Request::Forward(message) => self.forward_as(message, seat),
-            Request::Learn(vat, promise) => self.learn_at(vat, promise, seat),
+            Request::Move(Move::Arrive(message)) => self.arrive_as(message, seat),
+            Request::Move(Move::Forward(message)) => self.forward_as(message, seat),
+            Request::Move(Move::Learn(vat, promise)) => self.learn_at(vat, promise, seat),
         }
     }
 }

@@ -1,13 +1,13 @@
 // Events that are entered from no seat.
 ghost use Rattle.std.specs.Prelude.{◌≡◌, IfOk, IfErr, OnOk, OnErr};
 ghost use Rattle.kernele.specs.View.{program_of};
-ghost use Rattle.world_cells.specs.Events.{birth, ask, arrive, forward, learn};
+ghost use Rattle.book_agenda.specs.declared.agenda.Move.TheVariants.{Arrive, Forward};
+ghost use Rattle.book_refusals.specs.Fault.{Tells};
 ghost use Rattle.book.specs.Refusals.{birth_refusal, ask_refusal, arrival_refusal, forward_refusal, learn_refusal};
-ghost use Rattle.book.specs.Calls.{Arrives, Asks, Births, Forwards, Learns};
-ghost use Rattle.book.specs.Fault.{Tells};
+ghost use Rattle.book.specs.Calls.{Asks, Births, Learns, Makes};
 
 use crate::book::{Book, NO_SEAT};
-use crate::fault::BookFault;
+use book_refusals::fault::BookFault;
 use ids::names::{EventName, MsgId, PromId};
 use ids::text::Text;
 use kernele::tree::Program;
@@ -45,7 +45,7 @@ impl Book {
 
     /// As `arrive_as`, also in its errors, from no seat.
     pub fn arrive(&mut self, name: MsgId) -> Result<EventName, BookFault>
-        ensures ok { IfOk result (λ e. Arrives name 0 e (book_of self.old) (book_of self.new)) }
+        ensures ok { IfOk result (λ e. Makes (Arrive name) 0 e (book_of self.old) (book_of self.new)) }
         ensures err { IfErr result (λ fault. Tells fault (arrival_refusal (book_of self.old) name)) }
         ensures unchanged { OnErr result (book_of self.new ≡ book_of self.old) }
         ensures counted { OnOk result (CountsNew self.old self.new) }
@@ -56,7 +56,7 @@ impl Book {
 
     /// As `forward_as`, also in its errors, from no seat.
     pub fn forward(&mut self, name: MsgId) -> Result<EventName, BookFault>
-        ensures ok { IfOk result (λ e. Forwards name 0 e (book_of self.old) (book_of self.new)) }
+        ensures ok { IfOk result (λ e. Makes (Forward name) 0 e (book_of self.old) (book_of self.new)) }
         ensures err { IfErr result (λ fault. Tells fault (forward_refusal (book_of self.old) name)) }
         ensures unchanged { OnErr result (book_of self.new ≡ book_of self.old) }
         ensures counted { OnOk result (CountsNew self.old self.new) }

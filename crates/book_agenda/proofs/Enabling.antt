@@ -21,7 +21,6 @@ use Rattle.ids.specs.declared.names.MsgId.{MsgId}
 use Rattle.ids.specs.declared.names.VatNo.{VatNo}
 use Rattle.world_cells.specs.World.{World}
 use Rattle.book_agenda.specs.Waiting.{how, is_front}
-use Rattle.book_agenda.specs.Ways.{waits_in}
 use Rattle.book_agenda.specs.AgendaView.{known_cmp, NotedIn}
 use Rattle.book_agenda.specs.Enabled.{Out, MayDo, may_arrive, may_forward, may_turn, may_learn, message_in, learn_in, step_cmp_by, step_cmp, Rises, Enabled, First}
 use Rattle.book_agenda.specs.Found.{message_step, step_by, step_if, front_step, front_steps, learn_step, message_steps, learn_steps, first_in}
@@ -30,6 +29,7 @@ use Rattle.book_agenda.specs.declared.waiting.Waits.TheVariants as waits
 use Rattle.book_agenda.specs.declared.agenda.Known.{Known}
 use Rattle.book_agenda.specs.declared.agenda.Agenda.{Agenda}
 use Rattle.book_agenda.specs.declared.agenda.Step.{Step}
+use Rattle.book_agenda.specs.declared.agenda.Move.TheVariants as move
 use Rattle.book_agenda.specs.declared.agenda.Step.TheVariants as step
 use Rattle.book_agenda.proofs.Orders.{message_total, known_total, exact_known}
 use Rattle.book_agenda.proofs.Stepping.{found_may, may_found, found_waits, step_right, learning_is, learn_may, learnable}
@@ -105,12 +105,12 @@ module _ (w : World) (out : Out) (a : Agenda) where
 
   -- each is of a message, or what a vat learns
   each_kind : NotedIn w a → (P : Step → Type 0) → ((s : Step) (m : MsgId) → MayDo w out s → message_in s ≡ Some m → P s) → ((s : Step) → message_in s ≡ None → Contains (learn_steps out a) s → P s) → (s : Step) → MayDo w out s → P s
-  each_kind notes P f g _ (may_arrive {m = m} there at) = f (step.Arrive m) m (may_arrive there at) refl
-  each_kind notes P f g _ (may_forward {m = m} there at goes) = f (step.Forward m) m (may_forward there at goes) refl
+  each_kind notes P f g _ (may_arrive {m = m} there at) = f (step.Move (move.Arrive m)) m (may_arrive there at) refl
+  each_kind notes P f g _ (may_forward {m = m} there at goes) = f (step.Move (move.Forward m)) m (may_forward there at goes) refl
   each_kind notes P f g _ (may_turn {m = m} there at o ready) = f (step.Turn m) m (may_turn there at o ready) refl
   each_kind notes P f g _ (may_learn {v = v} {p = p} there known o) =
       let k : Known = record { vat = v; promise = p } in
-      g (step.Learn v p) refl (in_given (learn_step out) k (step.Learn v p) a.known.keys ((btree_set_contains_iff known_total exact_known a.known k).0 (notes.learns v p ∙ learnable w v p there known)) (ap (λ b. cond b None (Some (step.Learn v p))) o))
+      g (step.Move (move.Learn v p)) refl (in_given (learn_step out) k (step.Move (move.Learn v p)) a.known.keys ((btree_set_contains_iff known_total exact_known a.known k).0 (notes.learns v p ∙ learnable w v p there known)) (ap (λ b. cond b None (Some (step.Move (move.Learn v p)))) o))
 
   pub is_found : NotedIn w a → (s : Step) → MayDo w out s → Contains (steps_of w out a) s
   is_found notes = each_kind notes (λ s. Contains (steps_of w out a) s) (λ s m may h. by_message notes s may m h) (λ s h i. Contains-append_right (steps_by_name w out a) (learn_steps out a) s i)

@@ -31,6 +31,7 @@ use Rattle.book_agenda.specs.Enabled.{Out, MayDo, may_arrive, may_forward, may_t
 use Rattle.book_agenda.specs.Found.{step_in, step_of, moves_in, moves, step_by, message_step, learn_step}
 use Rattle.book_agenda.specs.declared.agenda.Known.{Known}
 use Rattle.book_agenda.specs.declared.agenda.Step.{Step}
+use Rattle.book_agenda.specs.declared.agenda.Move.TheVariants as move
 use Rattle.book_agenda.specs.declared.agenda.Step.TheVariants as step
 
 -- what there is, by a test
@@ -118,12 +119,12 @@ module _ (w : World) (out : Out) where
   turns_found m g v s there here true ready false o h = subst (MayDoBy m) (same_Some (step.Turn m) s h) (refl, may_turn there here o (ready_from w m g v there here (nothing_there (unready_at w v g) ready)))
 
   found_at : (m : MsgId) (g : Message) (v : VatNo) (s : Step) → message_of w m ≡ Some g → stands_at g.place ≡ Some v → (b : Bool) → is_some (onward_of w v g) ≡ b
-      → cond b (Some (step.Forward m)) (cond (out v) None (cond (is_none (unready_at w v g)) (Some (step.Turn m)) None)) ≡ Some s → MayDoBy m s
-  found_at m g v s there here true goes h = subst (MayDoBy m) (same_Some (step.Forward m) s h) (refl, may_forward there here (something (onward_of w v g) goes).1)
+      → cond b (Some (step.Move (move.Forward m))) (cond (out v) None (cond (is_none (unready_at w v g)) (Some (step.Turn m)) None)) ≡ Some s → MayDoBy m s
+  found_at m g v s there here true goes h = subst (MayDoBy m) (same_Some (step.Move (move.Forward m)) s h) (refl, may_forward there here (something (onward_of w v g) goes).1)
   found_at m g v s there here false goes h = turns_found m g v s there here (is_none (unready_at w v g)) refl (out v) refl h
 
   found_in : (m : MsgId) (g : Message) (s : Step) → message_of w m ≡ Some g → (x : Place) → g.place ≡ x → step_in w out m g x ≡ Some s → MayDoBy m s
-  found_in m g s there (flying v) at h = subst (MayDoBy m) (same_Some (step.Arrive m) s h) (refl, may_arrive there (ap flies_to at))
+  found_in m g s there (flying v) at h = subst (MayDoBy m) (same_Some (step.Move (move.Arrive m)) s h) (refl, may_arrive there (ap flies_to at))
   found_in m g s there (at_vat v) at h = found_at m g v s there (ap stands_at at) (is_some (onward_of w v g)) refl h
   found_in m g s there (done e) at h = absurd (none-some s h)
 
@@ -140,15 +141,15 @@ module _ (w : World) (out : Out) where
   at_place m g x there at = ap (step_of w out m) there ∙ ap (step_in w out m g) at
 
   may_found_of : (s : Step) → MayDo w out s → (m : MsgId) → message_in s ≡ Some m → message_step w out m ≡ Some s
-  may_found_of _ (may_arrive {m = n} {g = g} {v = v} there at) m h = subst (λ k. message_step w out k ≡ Some (step.Arrive n)) (same_Some n m h) (at_place n g (flying v) there (flying_to g.place v at))
+  may_found_of _ (may_arrive {m = n} {g = g} {v = v} there at) m h = subst (λ k. message_step w out k ≡ Some (step.Move (move.Arrive n))) (same_Some n m h) (at_place n g (flying v) there (flying_to g.place v at))
   may_found_of _ (may_forward {m = n} {g = g} {v = v} {r = r} there at goes) m h =
-      subst (λ k. message_step w out k ≡ Some (step.Forward n)) (same_Some n m h)
-      (at_place n g (at_vat v) there (waiting_at g.place v at) ∙ ap (λ b. cond b (Some (step.Forward n)) (cond (out v) None (cond (is_none (unready_at w v g)) (Some (step.Turn n)) None))) (is_something (onward_of w v g) r goes))
+      subst (λ k. message_step w out k ≡ Some (step.Move (move.Forward n))) (same_Some n m h)
+      (at_place n g (at_vat v) there (waiting_at g.place v at) ∙ ap (λ b. cond b (Some (step.Move (move.Forward n))) (cond (out v) None (cond (is_none (unready_at w v g)) (Some (step.Turn n)) None))) (is_something (onward_of w v g) r goes))
   may_found_of _ (may_turn {m = n} {g = g} {v = v} there at o ready) m h =
       let free = ready_at w n g v there at ready in
       subst (λ k. message_step w out k ≡ Some (step.Turn n)) (same_Some n m h)
       (at_place n g (at_vat v) there (waiting_at g.place v at)
-      ∙ ap (λ (x : Option (VatNo × List PromId)). cond (is_some x) (Some (step.Forward n)) (cond (out v) None (cond (is_none (unready_at w v g)) (Some (step.Turn n)) None))) (no_way w v g.delivery (leads_if_ready w v g free))
+      ∙ ap (λ (x : Option (VatNo × List PromId)). cond (is_some x) (Some (step.Move (move.Forward n))) (cond (out v) None (cond (is_none (unready_at w v g)) (Some (step.Turn n)) None))) (no_way w v g.delivery (leads_if_ready w v g free))
       ∙ ap (λ b. cond b None (cond (is_none (unready_at w v g)) (Some (step.Turn n)) None)) o
       ∙ ap (λ (x : Option Unready). cond (is_none x) (Some (step.Turn n)) None) free)
   may_found_of _ (may_learn there known o) m h = absurd (none-some m h)
@@ -160,13 +161,13 @@ module _ (w : World) (out : Out) where
 
   step_here : (m : MsgId) (g : Message) (v : VatNo) → message_of w m ≡ Some g → g.place ≡ at_vat v → (b : Bool) → is_some (onward_of w v g) ≡ b → (c : Bool) → is_none (unready_at w v g) ≡ c
       → step_by w out m (cond b waits.Moving (cond c (waits.Ready v) waits.Behind)) ≡ message_step w out m
-  step_here m g v there at b goes c ready = by b c ∙ sym (at_place m g (at_vat v) there at ∙ ap₂ (λ x y. cond x (Some (step.Forward m)) (cond (out v) None (cond y (Some (step.Turn m)) None))) goes ready)
+  step_here m g v there at b goes c ready = by b c ∙ sym (at_place m g (at_vat v) there at ∙ ap₂ (λ x y. cond x (Some (step.Move (move.Forward m))) (cond (out v) None (cond y (Some (step.Turn m)) None))) goes ready)
     where
       never : (o : Bool) → ◌≡◌ {A = Option Step} None (cond o None None)
       never true = refl
       never false = refl
 
-      by : (x y : Bool) → step_by w out m (cond x waits.Moving (cond y (waits.Ready v) waits.Behind)) ≡ cond x (Some (step.Forward m)) (cond (out v) None (cond y (Some (step.Turn m)) None))
+      by : (x y : Bool) → step_by w out m (cond x waits.Moving (cond y (waits.Ready v) waits.Behind)) ≡ cond x (Some (step.Move (move.Forward m))) (cond (out v) None (cond y (Some (step.Turn m)) None))
       by true y = ap (moves m) there ∙ ap (moves_in m) at
       by false true = refl
       by false false = never (out v)
@@ -243,12 +244,12 @@ module _ (w : World) where
 
 -- ---- learning
 
-pub learning_is : (out : Out) (k : Known) (s : Step) → learn_step out k ≡ Some s → (out k.vat ≡ false) × (step.Learn k.vat k.promise ≡ s)
+pub learning_is : (out : Out) (k : Known) (s : Step) → learn_step out k ≡ Some s → (out k.vat ≡ false) × (step.Move (move.Learn k.vat k.promise) ≡ s)
 learning_is out k s h = by (out k.vat) h
   where
-    by : (b : Bool) → cond b None (Some (step.Learn k.vat k.promise)) ≡ Some s → (b ≡ false) × (step.Learn k.vat k.promise ≡ s)
+    by : (b : Bool) → cond b None (Some (step.Move (move.Learn k.vat k.promise))) ≡ Some s → (b ≡ false) × (step.Move (move.Learn k.vat k.promise) ≡ s)
     by true e = absurd (none-some s e)
-    by false e = (refl, same_Some (step.Learn k.vat k.promise) s e)
+    by false e = (refl, same_Some (step.Move (move.Learn k.vat k.promise)) s e)
 
 open_is : (o : Option heap.Content) → is_open o ≡ true → o ≡ Some (heap.viewed pending)
 open_is (Some (heap.viewed pending)) h = refl
@@ -260,7 +261,7 @@ open_is (Some (heap.made o)) h = absurd (false≢true h)
 open_is (Some (heap.fenced names)) h = absurd (false≢true h)
 
 -- a vat may learn what it can learn of, and nothing else
-pub learn_may : (w : World) (out : Out) (v : VatNo) (p : PromId) → can_learn w v p ≡ true → out v ≡ false → MayDo w out (step.Learn v p)
+pub learn_may : (w : World) (out : Out) (v : VatNo) (p : PromId) → can_learn w v p ≡ true → out v ≡ false → MayDo w out (step.Move (move.Learn v p))
 learn_may w out v p h o =
     let parts = and_parts (open_view w p v) (is_some (published_as w p)) h in
     may_learn (open_is (vat_state w v (view_cell p)) parts.0) parts.1 o

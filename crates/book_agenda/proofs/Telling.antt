@@ -1,5 +1,5 @@
 -- How a message waits is told by its own cell and by those that tell it: where these stay as they are, it waits as before, and the same cells tell it.
-use Rattle.std.proofs.Common.{◌≡◌, Bool, true, false, cond, List, [], ◌∷◌, ◌++◌, map, Option, Some, None, is_some, is_none, refl, ap, ap₂, subst, ◌∙◌}
+use Rattle.std.proofs.Common.{◌≡◌, Bool, cond, List, [], ◌∷◌, ◌++◌, map, Option, Some, None, is_some, is_none, refl, ap, ap₂, subst, ◌∙◌}
 use Rattle.std.specs.List.{AllByRecursion}
 use Rattle.ids.specs.declared.names.VatNo.{VatNo}
 use Rattle.ids.specs.declared.names.MsgId.{MsgId}
@@ -12,15 +12,14 @@ use Rattle.sends.specs.Playing.{views_in}
 use Rattle.post.specs.Delivery.{Delivery, When, opening, asked, sent, waiting}
 use Rattle.post.specs.Messages.{Place, flying, at_vat, done, Message}
 use Rattle.world_cells.specs.World.{Content, World, cell_content, vat_state}
-use Rattle.event.specs.Forwarding.{going_on, onward_of, delivery_onward}
-use Rattle.event.specs.Ready.{early_by, first_undone, leads_there, unready_at}
+use Rattle.event.specs.Forwarding.{going_on, delivery_onward}
+use Rattle.event.specs.Ready.{early_by, first_undone, unready_at}
 use Rattle.event.specs.Walks.{awaited, delivery_walk, ends_there, is_known, looked_up, may_end}
 use Rattle.event.specs.declared.ready.Unready.{Unready}
 use Rattle.event.specs.declared.ready.Unready.TheVariants as why
 use Rattle.event.proofs.Listing.{all_front, all_rest}
 use Rattle.event.proofs.Walking.{AgreeAlong, SameBoard, same_board, walks_alike, board_alike, looked_alike, awaited_alike, undone_alike}
 use Rattle.book_agenda.specs.Ways.{key_of, waits_here, waits_at, waits_of, viewed, cues_here, cues_at, cues_of}
-use Rattle.book_agenda.specs.declared.waiting.Waits.{Waits}
 use Rattle.book_agenda.specs.declared.waiting.Waits.TheVariants as waits
 use Rattle.book_agenda.specs.declared.ways.Cue.{Cue}
 use Rattle.book_agenda.specs.declared.ways.Cue.TheVariants as cue

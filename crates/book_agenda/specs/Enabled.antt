@@ -15,6 +15,7 @@ use Rattle.world_cells.specs.World.{World, message_of, published_as, vat_state}
 use Rattle.event.specs.Forwarding.{onward_of}
 use Rattle.event.specs.Ready.{IsReady}
 use Rattle.book_agenda.specs.declared.agenda.Step.{Step}
+use Rattle.book_agenda.specs.declared.agenda.Move.TheVariants as move
 use Rattle.book_agenda.specs.declared.agenda.Step.TheVariants as step
 
 -- whether a ticket of a vat is out
@@ -24,20 +25,20 @@ Out = VatNo → Bool
 -- this may be done: a message on its way arrives, a message at a vat goes on where its target leads, a message that is ready has its turn, and
 -- a vat learns what a promise was published as that is open in its view; turns and learning only of vats that are not out
 pub data MayDo (w : World) (out : Out) : Step → Type 0 where
-  may_arrive : {m : MsgId} {g : Message} {v : VatNo} → message_of w m ≡ Some g → flies_to g.place ≡ Some v → MayDo w out (step.Arrive m)
-  may_forward : {m : MsgId} {g : Message} {v : VatNo} {r : VatNo × List PromId} → message_of w m ≡ Some g → waits_at g.place ≡ Some v → onward_of w v g ≡ Some r → MayDo w out (step.Forward m)
+  may_arrive : {m : MsgId} {g : Message} {v : VatNo} → message_of w m ≡ Some g → flies_to g.place ≡ Some v → MayDo w out (step.Move (move.Arrive m))
+  may_forward : {m : MsgId} {g : Message} {v : VatNo} {r : VatNo × List PromId} → message_of w m ≡ Some g → waits_at g.place ≡ Some v → onward_of w v g ≡ Some r → MayDo w out (step.Move (move.Forward m))
   may_turn : {m : MsgId} {g : Message} {v : VatNo} → message_of w m ≡ Some g → waits_at g.place ≡ Some v → out v ≡ false → IsReady w m → MayDo w out (step.Turn m)
-  may_learn : {v : VatNo} {p : PromId} → vat_state w v (view_cell p) ≡ Some (heap.viewed pending) → is_some (published_as w p) ≡ true → out v ≡ false → MayDo w out (step.Learn v p)
+  may_learn : {v : VatNo} {p : PromId} → vat_state w v (view_cell p) ≡ Some (heap.viewed pending) → is_some (published_as w p) ≡ true → out v ≡ false → MayDo w out (step.Move (move.Learn v p))
 
 -- the order in which they are tried: what messages can do by their names, then what vats can learn by birth and by promise
 abbrev pub message_in : Step → Option MsgId
-message_in (step.Arrive m) = Some m
-message_in (step.Forward m) = Some m
+message_in (step.Move (move.Arrive m)) = Some m
+message_in (step.Move (move.Forward m)) = Some m
 message_in (step.Turn m) = Some m
-message_in (step.Learn v p) = None
+message_in (step.Move (move.Learn v p)) = None
 
 abbrev pub learn_in : Step → VatNo × PromId
-learn_in (step.Learn v p) = (v, p)
+learn_in (step.Move (move.Learn v p)) = (v, p)
 learn_in s = (record { 0 = record { 0 = 0 } }, record { event = record { 0 = 0 }; index = 0; home = record { 0 = record { 0 = 0 } } })
 
 abbrev pub step_cmp_by : Option MsgId → Option MsgId → Ordering → Ordering

@@ -14,12 +14,13 @@ use Rattle.book_agenda.specs.declared.waiting.Waits.TheVariants as waits
 use Rattle.book_agenda.specs.declared.agenda.Known.{Known}
 use Rattle.book_agenda.specs.declared.agenda.Agenda.{Agenda}
 use Rattle.book_agenda.specs.declared.agenda.Step.{Step}
+use Rattle.book_agenda.specs.declared.agenda.Move.TheVariants as move
 use Rattle.book_agenda.specs.declared.agenda.Step.TheVariants as step
 
 -- what a message does that moves: it arrives, or goes on
 abbrev pub moves_in : MsgId → Place → Option Step
-moves_in m (flying v) = Some (step.Arrive m)
-moves_in m (at_vat v) = Some (step.Forward m)
+moves_in m (flying v) = Some (step.Move (move.Arrive m))
+moves_in m (at_vat v) = Some (step.Move (move.Forward m))
 moves_in m (done e) = None
 
 abbrev pub moves : MsgId → Option Message → Option Step
@@ -29,10 +30,10 @@ moves m (Some g) = moves_in m g.place
 module _ (w : World) (out : Out) where
   -- a message at a vat goes on if it can, and has its turn if it is ready and no ticket of the vat is out
   abbrev pub step_at : MsgId → Message → VatNo → Option Step
-  step_at m g v = cond (is_some (onward_of w v g)) (Some (step.Forward m)) (cond (out v) None (cond (is_none (unready_at w v g)) (Some (step.Turn m)) None))
+  step_at m g v = cond (is_some (onward_of w v g)) (Some (step.Move (move.Forward m))) (cond (out v) None (cond (is_none (unready_at w v g)) (Some (step.Turn m)) None))
 
   abbrev pub step_in : MsgId → Message → Place → Option Step
-  step_in m g (flying v) = Some (step.Arrive m)
+  step_in m g (flying v) = Some (step.Move (move.Arrive m))
   step_in m g (at_vat v) = step_at m g v
   step_in m g (done e) = None
 
@@ -67,7 +68,7 @@ module _ (w : World) (out : Out) where
 
 -- a vat learns what it can learn if no ticket of it is out
 abbrev pub learn_step : Out → Known → Option Step
-learn_step out k = cond (out k.vat) None (Some (step.Learn k.vat k.promise))
+learn_step out k = cond (out k.vat) None (Some (step.Move (move.Learn k.vat k.promise)))
 
 -- what vats can learn
 abbrev pub learn_steps : Out → Agenda → List Step

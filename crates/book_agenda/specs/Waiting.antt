@@ -1,6 +1,6 @@
 -- What the program's list of waiting messages stands for, and what becomes of it.
 use Rattle.std.specs.Prelude.{◌≡◌, ◌⊎◌, Bool, true, false, cond, Option, Some, None}
-use Rattle.std.specs.Ordering.{is_eq, is_lt, is_gt, ordering_then}
+use Rattle.std.specs.Ordering.{is_eq, is_gt, ordering_then}
 use Rattle.std.specs.BTreeMap as map
 use Rattle.std.specs.BTreeSet.{contains}
 use Rattle.std.specs.declared.cmp.Ordering.{Ordering}

@@ -18,7 +18,7 @@ ghost use Rattle.book_agenda.specs.AgendaView.{out_at, KeepsEach};
 ghost use Rattle.book_agenda.specs.Found.{moves as moves_of, step_by as step_by_way, learn_step};
 
 use crate::waiting::{Waiting, Waits};
-use crate::ways::{Cue, Way, way_of};
+use crate::ways::{Cue, CuedWait, way_of};
 use desk::desk::Desk;
 use heap::state::{VatState, View};
 use ids::cells::CellKey;
@@ -28,17 +28,23 @@ use std::alloc::{AllocError, Global};
 use std::collections::{BTreeMap, BTreeSet};
 use world_cells::world::World;
 
-/// Something that may be done.
+/// Something that happens without running anything.
 #[derive(Clone, Copy)]
-pub enum Step {
+pub enum Move {
     /// A message on its way arrives.
     Arrive(MsgId),
     /// A message goes on to the vat to which its target leads.
     Forward(MsgId),
-    /// A message that is ready has its turn.
-    Turn(MsgId),
     /// A vat learns what a promise was published as.
     Learn(VatNo, PromId),
+}
+
+/// Something that may be done.
+#[derive(Clone, Copy)]
+pub enum Step {
+    Move(Move),
+    /// A message that is ready has its turn.
+    Turn(MsgId),
 }
 
 /// A promise that is open in a vat's view.
@@ -186,7 +192,7 @@ impl Agenda {
     fn place(&mut self, alloc: Global, world: &World, name: MsgId) -> Result<(), AllocError>
         ensures { OnOk result (Places (world_of world.now) (λ m. is_eq (message_cmp name m)) self.old self.new) }
     {
-        let Way { waits, cues } = way_of(alloc, world, name)?;
+        let CuedWait { waits, cues } = way_of(alloc, world, name)?;
         self.watch(name, cues)?;
         self.waiting.put(name, waits)
     }
@@ -510,8 +516,8 @@ fn moves(world: &World, name: MsgId) -> Option<Step>
 {
     match world.message(name) {
         Some(message) => match message.place {
-            Place::Flying(_) => Some(Step::Arrive(name)),
-            Place::At(_) => Some(Step::Forward(name)),
+            Place::Flying(_) => Some(Step::Move(Move::Arrive(name))),
+            Place::At(_) => Some(Step::Move(Move::Forward(name))),
             Place::Done(_) => None,
         },
         None => None,
@@ -522,5 +528,5 @@ fn moves(world: &World, name: MsgId) -> Option<Step>
 fn learning(known: &Known, desk: &Desk) -> Option<Step>
     ensures { result ≡ learn_step (out_at desk.now) known.now }
 {
-    (!desk.has_vat(known.vat)).then_some(Step::Learn(known.vat, known.promise))
+    (!desk.has_vat(known.vat)).then_some(Step::Move(Move::Learn(known.vat, known.promise)))
 }

@@ -5,18 +5,17 @@ ghost use Rattle.heap.specs.View.{state_of};
 ghost use Rattle.refs.specs.Walks.{walked};
 ghost use Rattle.sends.specs.Playing.{views_in};
 ghost use Rattle.post.specs.DeliveryView.{delivery_of};
-ghost use Rattle.post.specs.Messages.{done_in};
 ghost use Rattle.post.specs.MessageView.{message_of};
 ghost use Rattle.world_cells.specs.View.{world_of};
-ghost use Rattle.world_cells.specs.World.{message_of as message_in_world, vat_state};
+ghost use Rattle.world_cells.specs.World.{vat_state};
 ghost use Rattle.event.specs.Ready.{first_undone, unready_at};
-ghost use Rattle.event.specs.Walks.{is_there as is_there_of, looked_up as looked_up_of};
+ghost use Rattle.event.specs.Walks.{looked_up as looked_up_of};
 ghost use Rattle.book_agenda.specs.Ways.{behind, cues_here, cues_in, stays as stays_of, viewed as viewed_of, waits_here, waits_in};
 ghost use Rattle.book_agenda.specs.declared.ways.Cue.TheVariants as cue;
 
 use crate::waiting::Waits;
 use event::forwarding::onward;
-use event::ready::{Delay, check_ready};
+use event::ready::{Delay, check_ready, is_done, is_there};
 use event::walks::{Walked, awaited_along, walk};
 use heap::state::{VatState, View};
 use ids::names::{MsgId, PromId, VatNo};
@@ -41,13 +40,13 @@ pub(crate) enum Cue {
 
 /// How a message waits, if it is there and not done, and the cells that tell it besides its own.
 #[derive(Drop)]
-pub(crate) struct Way {
+pub(crate) struct CuedWait {
     pub waits: Option<Waits>,
     pub cues: Vec<Cue>,
 }
 
 /// The way of a message. Fails only for want of memory.
-pub(crate) fn way_of(alloc: Global, world: &World, name: MsgId) -> Result<Way, AllocError>
+pub(crate) fn way_of(alloc: Global, world: &World, name: MsgId) -> Result<CuedWait, AllocError>
     ensures waits { IfOk result (λ r. r.waits ≡ waits_in (world_of world.now) name) }
     ensures cues { IfOk result (λ r. r.cues.items ≡ cues_in (world_of world.now) name) }
 {
@@ -62,18 +61,23 @@ pub(crate) fn way_of(alloc: Global, world: &World, name: MsgId) -> Result<Way, A
 }
 
 /// A way that the message's own cell tells alone.
-fn alone(alloc: Global, waits: Option<Waits>) -> Way
+fn alone(alloc: Global, waits: Option<Waits>) -> CuedWait
     ensures waits { result.waits ≡ waits }
     ensures cues { result.cues.items ≡ [] }
 {
-    Way {
+    CuedWait {
         waits,
         cues: Vec::new(alloc),
     }
 }
 
 /// The way of a message at a vat.
-fn way_at(alloc: Global, world: &World, message: &Message, vat: VatNo) -> Result<Way, AllocError>
+fn way_at(
+    alloc: Global,
+    world: &World,
+    message: &Message,
+    vat: VatNo,
+) -> Result<CuedWait, AllocError>
     ensures waits { IfOk result (λ r. r.waits ≡ Some (waits_here (world_of world.now) vat (message_of message.now))) }
     ensures cues { IfOk result (λ r. r.cues.items ≡ cues_here (world_of world.now) vat (message_of message.now)) }
 {
@@ -85,14 +89,19 @@ fn way_at(alloc: Global, world: &World, message: &Message, vat: VatNo) -> Result
 }
 
 /// The way of a message that can do nothing but have its turn at this vat, once these messages are done.
-fn way_behind(alloc: Global, world: &World, names: &[MsgId], vat: VatNo) -> Result<Way, AllocError>
+fn way_behind(
+    alloc: Global,
+    world: &World,
+    names: &[MsgId],
+    vat: VatNo,
+) -> Result<CuedWait, AllocError>
     ensures waits { IfOk result (λ r. r.waits ≡ Some (behind (world_of world.now) vat names.now)) }
     ensures cues { IfOk result (λ r. r.cues.items ≡ map cue.Message names.now) }
 {
     let mut cues = Vec::new(alloc);
     add_messages(names, &mut cues)?;
     let waits = Some(waits_behind(world, names, vat));
-    Ok(Way { waits, cues })
+    Ok(CuedWait { waits, cues })
 }
 
 /// How a message waits at a vat that can do nothing but have its turn there, once these messages are done.
@@ -107,13 +116,18 @@ fn waits_behind(world: &World, names: &[MsgId], vat: VatNo) -> Waits
 }
 
 /// The way of a message at a vat that hangs on what is published, or on what the vat knows.
-fn way_led(alloc: Global, world: &World, message: &Message, vat: VatNo) -> Result<Way, AllocError>
+fn way_led(
+    alloc: Global,
+    world: &World,
+    message: &Message,
+    vat: VatNo,
+) -> Result<CuedWait, AllocError>
     ensures waits { IfOk result (λ r. r.waits ≡ Some (waits_here (world_of world.now) vat (message_of message.now))) }
     ensures cues { IfOk result (λ r. r.cues.items ≡ cues_here (world_of world.now) vat (message_of message.now)) }
 {
     let waits = Some(waits_led(alloc, world, message, vat)?);
     let cues = cues_led(alloc, world, message, vat)?;
-    Ok(Way { waits, cues })
+    Ok(CuedWait { waits, cues })
 }
 
 /// How a message waits at a vat: it may go on, or have its turn, or do nothing.
@@ -208,18 +222,18 @@ fn known_along(
     ensures { IfOk result (λ ps. ps.items ≡ walked (views_in (vat_state (world_of world.now) vat)) (val_of value.now)) }
 {
     let mut through = Vec::new(alloc);
-    end_of(&Views { world, vat }, value, &mut through)?;
+    end_of(&VatViews { world, vat }, value, &mut through)?;
     Ok(through)
 }
 
 /// What a vat knows promises resolved to.
 #[derive(Drop)]
-struct Views<'a> {
+struct VatViews<'a> {
     world: &'a World,
     vat: VatNo,
 }
 
-impl<'a> Resolve for Views<'a> {
+impl<'a> Resolve for VatViews<'a> {
     ghost use Rattle.sends.specs.Playing.{views_in};
     ghost use Rattle.world_cells.specs.View.{world_of};
     ghost use Rattle.world_cells.specs.World.{vat_state};
@@ -279,26 +293,9 @@ fn stays(delivery: &Delivery, vat: VatNo) -> bool
     ensures { result ≡ stays_of vat (delivery_of delivery.now) }
 {
     match delivery {
-        Delivery::Sent(call) => is_there(&call.target, vat),
+        Delivery::Sent(call) => is_there(vat, &call.target),
         Delivery::Opening(_, _) | Delivery::Asked(_) => true,
         Delivery::Waiting(_) => false,
-    }
-}
-
-/// Whether a call on this is made in this vat.
-fn is_there(target: &Value, vat: VatNo) -> bool
-    ensures { result ≡ is_there_of vat (val_of target.now) }
-{
-    match target {
-        Value::Object(object) => object.vat == vat,
-        Value::Ejector(ejector) => ejector.vat == vat,
-        Value::Promise(_) => false,
-        Value::Null
-        | Value::Bool(_)
-        | Value::Int(_)
-        | Value::Text(_)
-        | Value::List(_)
-        | Value::Broken(_) => true,
     }
 }
 
@@ -312,17 +309,4 @@ fn are_done(world: &World, names: &[MsgId]) -> bool
         }
     }
     true
-}
-
-/// Whether a message is there and done.
-fn is_done(world: &World, name: MsgId) -> bool
-    ensures { result ≡ done_in (message_in_world (world_of world.now) name) }
-{
-    match world.message(name) {
-        Some(message) => match message.place {
-            Place::Flying(_) | Place::At(_) => false,
-            Place::Done(_) => true,
-        },
-        None => false,
-    }
 }

@@ -2,12 +2,13 @@
 use Rattle.std.specs.Prelude.{◌≡◌, ◌⊎◌, ℕ, ◌+◌, ◌<◌, ◌≤◌, true, false, Bool, List, ◌++◌, count_by, All, Some, Contains}
 use Rattle.world_cells.specs.Events.{Act, birth, ask, arrive, forward, learn, turn, event_in}
 use Rattle.journal.specs.Lines.{Line}
+use Rattle.book_refusals.specs.Refusals.{bad_budget}
+use Rattle.book_refusals.specs.declared.fault.BookFault.TheVariants as fault
+use Rattle.book_refusals.specs.declared.fault.WorkFault.{WorkFault}
+use Rattle.book_refusals.specs.declared.fault.WorkFault.TheVariants as work
 use Rattle.book.specs.Books.{Book}
 use Rattle.book.specs.Good.{IsGood}
-use Rattle.book.specs.Refusals.{bad_budget, budget_refusal}
-use Rattle.book.specs.declared.fault.BookFault.TheVariants as fault
-use Rattle.book.specs.declared.fault.WorkFault.{WorkFault}
-use Rattle.book.specs.declared.fault.WorkFault.TheVariants as work
+use Rattle.book.specs.Refusals.{budget_refusal}
 
 -- workers have messages arrive and go on, and vats learn and take turns; they bear no vat and ask nothing
 abbrev pub is_work : Act → Bool

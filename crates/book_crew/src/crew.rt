@@ -1,6 +1,6 @@
 // The book goes to a crew, and comes back.
 use book::book::Book;
-use book::fault::WorkFault;
+use book_refusals::fault::WorkFault;
 use std::alloc::Global;
 
 /// What the command `work` asks for.

@@ -2,7 +2,7 @@
 
 use crate::calls::message;
 use book::book::Book;
-use book::fault::BookFault;
+use book_refusals::fault::BookFault;
 
 /// Of no events nothing is undone or redone.
 #[test]

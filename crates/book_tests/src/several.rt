@@ -2,8 +2,8 @@
 
 use crate::calls::{BUDGET, ask, birth_behind, expect_integer, message, name, turn};
 use book::book::Book;
-use book::fault::BookFault;
-use book_agenda::agenda::Step;
+use book_agenda::agenda::{Move, Step};
+use book_refusals::fault::BookFault;
 use ids::names::{EventName, MsgId, PromId, VatNo};
 use std::process::Abort;
 
@@ -35,7 +35,7 @@ fn expect_entered(rt: &impl Abort, entered: Result<EventName, BookFault>, wanted
 /// The promise that a vat may learn next.
 fn learnable(rt: &impl Abort, book: &mut Book) -> PromId {
     match next(rt, book) {
-        Some(Step::Learn(_, promise)) => promise,
+        Some(Step::Move(Move::Learn(_, promise))) => promise,
         _ => rt.panic("nothing to learn"),
     }
 }
@@ -43,7 +43,9 @@ fn learnable(rt: &impl Abort, book: &mut Book) -> PromId {
 #[test]
 fn a_message_to_another_vat(rt: HostRuntime) {
     let mut book = sent(&rt);
-    assert!(rt; matches!(next(&rt, &mut book), Some(Step::Arrive(name)) if name == message(6)));
+    assert!(rt;
+        matches!(next(&rt, &mut book), Some(Step::Move(Move::Arrive(name))) if name == message(6))
+    );
     expect_entered(&rt, book.arrive(message(6)), 7);
     assert!(rt; matches!(next(&rt, &mut book), Some(Step::Turn(name)) if name == message(6)));
     expect_integer(&rt, &turn(&rt, &mut book, 6, 8), 6);
@@ -84,8 +86,12 @@ fn what_may_be_done(rt: HostRuntime) {
     let steps = book.enabled().expect(&rt, "no memory");
     assert!(rt; steps.len() == 3);
     assert!(rt; matches!(steps[0], Step::Turn(name) if name == message(9)));
-    assert!(rt; matches!(steps[1], Step::Learn(_, promise) if promise.event == EventName(1)));
-    assert!(rt; matches!(steps[2], Step::Learn(_, promise) if promise.event == EventName(6)));
+    assert!(rt;
+        matches!(steps[1], Step::Move(Move::Learn(_, promise)) if promise.event == EventName(1))
+    );
+    assert!(rt;
+        matches!(steps[2], Step::Move(Move::Learn(_, promise)) if promise.event == EventName(6))
+    );
 }
 
 /// Turns and learning of a vat of which a ticket is out are left out, and those of other vats are not.
@@ -99,7 +105,7 @@ fn a_vat_that_is_out(rt: HostRuntime) {
     }
     let steps = book.enabled().expect(&rt, "no memory");
     assert!(rt; steps.len() == 1);
-    assert!(rt; matches!(steps[0], Step::Learn(vat, _) if vat == VatNo(EventName(3))));
+    assert!(rt; matches!(steps[0], Step::Move(Move::Learn(vat, _)) if vat == VatNo(EventName(3))));
 }
 
 #[test]

@@ -4,7 +4,7 @@ use crate::calls::{
     BUDGET, ask, birth, expect_integer, expect_journal, message, redo, settle, turn, undo,
 };
 use book::book::Book;
-use book::fault::BookFault;
+use book_refusals::fault::BookFault;
 use ids::names::EventName;
 use journal::entry::Mark;
 use std::process::Abort;

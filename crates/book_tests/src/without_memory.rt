@@ -1,5 +1,5 @@
 // What takes no memory, where each request for some is refused.
-ghost use Rattle.std.specs.Prelude.{◌≡◌, ◌∷◌, [], true, length};
+ghost use Rattle.std.specs.Prelude.{◌≡◌, ◌∷◌, [], true};
 ghost use Rattle.journal.specs.Items.{all_ready};
 ghost use Rattle.undo.specs.CoreView.{items_of, ready_of, settled_of};
 
@@ -7,7 +7,7 @@ use crate::calls::{birth, expect_journal, name, script};
 use crate::spent::Spent;
 use crate::tickets::{asked, checkout, refuse_strange, run};
 use book::book::Book;
-use book::fault::BookFault;
+use book_refusals::fault::BookFault;
 use event::effects::{Effects, birth_effects};
 use ids::names::EventName;
 use ids::text::Text;

@@ -1,23 +1,20 @@
 -- What a set of which none is settled lacks is found behind what is settled.
-use Rattle.std.proofs.Common.{◌≡◌, ◌∙◌, ℕ, ◌+◌, ◌==◌, Bool, true, false, cond, ◌&&◌, ◌||◌, not, List, [], ◌∷◌, ◌++◌, append-nil, append_assoc, Option, Some, None, length, map, filter, take, refl, sym, ap, ap₂, arith}
-use Rattle.std.specs.Option.{option_map, option_or}
+use Rattle.std.proofs.Common.{◌≡◌, ◌∙◌, ℕ, ◌+◌, ◌==◌, Bool, true, false, cond, ◌&&◌, ◌||◌, List, [], ◌∷◌, ◌++◌, Option, Some, None, length, map, take, refl, sym, ap, ap₂, arith}
 use Rattle.std.specs.List.{list_any, AllByRecursion}
 use Rattle.std.proofs.lemmas.List.{map-append}
-use Rattle.std.proofs.lemmas.List.Elements.{filter-append}
 use Rattle.history.proofs.Lists.{all_map}
 use Rattle.ids.specs.declared.names.EventName.{EventName}
 use Rattle.ids.specs.declared.cells.CellKey.{CellKey}
-use Rattle.history.specs.Journal.{is_in}
-use Rattle.journal.specs.Items.{Item, wrote_one_of}
+use Rattle.journal.specs.Items.{Item}
 use Rattle.journal.specs.Journals.{items_of, settled_item}
-use Rattle.journal.specs.Lines.{Line, causes_in, line_of}
+use Rattle.journal.specs.Lines.{Line, line_of}
 use Rattle.journal.specs.declared.entry.Mark.{Mark}
 use Rattle.journal.specs.declared.journal.Journal.{Journal}
 use Rattle.journal.specs.declared.settled.Settled.{Settled}
 use Rattle.causality.specs.Journals.{NoneSettled}
 use Rattle.causality.specs.Names.{is_writer_in, wrote_last}
-use Rattle.causality.specs.Selections.{name_of, chosen, first_some, first_name, has_mark, first_marked, gap, places_from}
-use Rattle.causality.specs.Walks.{is_of, joins, joined_with, gathered, first_along, comes_back, missed, missed_at, first_met, unnamed, unexpected, crossed, crossed_at}
+use Rattle.causality.specs.Selections.{name_of, chosen, first_name, has_mark, first_marked, places_from}
+use Rattle.causality.specs.Walks.{is_of, joins, joined_with, gathered}
 use Rattle.causality.proofs.Firsts.{some_past, none_each}
 use Rattle.causality.proofs.Indexing.{flipped}
 
@@ -67,13 +64,6 @@ module _ (names : List EventName) (all : List Item) where
       ap (λ b. cond b (n ∷ places_from (n + 1) names (map (line_of all) (ss ++ ys))) (places_from (n + 1) names (map (line_of all) (ss ++ ys)))) h
       ∙ places_past (n + 1) ss ys none ∙ ap (λ k. places_from k names (map (line_of all) ys)) e
 
-  -- what comes back without a cause, and what crosses another
-  pub missed_past : (before ss ys : List Item) → AllByRecursion (λ i. i.live ≡ true) ss → first_along (missed_at names all) before (ss ++ ys) ≡ first_along (missed_at names all) (before ++ ss) ys
-  missed_past before [] ys live = ap (λ b. first_along (missed_at names all) b ys) (sym (append-nil before))
-  missed_past before (i ∷ ss) ys (h, live) =
-      ap (λ b. option_or (cond (not b && is_of names i) (option_map (gap i.event.name) (missed names (causes_in all i) before)) None) (first_along (missed_at names all) (before ++ i ∷ []) (ss ++ ys))) h
-      ∙ missed_past (before ++ i ∷ []) ss ys live ∙ ap (λ b. first_along (missed_at names all) b ys) (append_assoc before (i ∷ []) ss)
-
 -- what joins
 none_wrote : (i : Item) → wrote_last [] i ≡ false
 none_wrote i = never i.lasts
@@ -100,47 +90,3 @@ gathered_past root (i ∷ ss) ys (h, none) =
     let apart : (i.event.name.0 == root.0) ≡ false = flipped i.event.name.0 root.0 ∙ one_not (root.0 == i.event.name.0) h in
     let out : joins root [] i ≡ false = ap₂ (λ a b. a || (i.live && b)) apart (none_wrote i) ∙ both_not i.live in
     ap (λ b. gathered root (joined_with b [] i) (ss ++ ys)) out ∙ gathered_past root ss ys none
-
--- what is live does not come back, and misses nothing
-pub none_back : (names : List EventName) (ss ys : List Item) → AllByRecursion (λ i. i.live ≡ true) ss → filter (comes_back names) (ss ++ ys) ≡ filter (comes_back names) ys
-none_back names [] ys live = refl
-none_back names (i ∷ ss) ys (h, live) = ap (λ b. cond (not b && is_of names i) (i ∷ filter (comes_back names) (ss ++ ys)) (filter (comes_back names) (ss ++ ys))) h ∙ none_back names ss ys live
-
-pub none_missed : (names : List EventName) (causes : List ℕ) (ss ys : List Item) → AllByRecursion (λ i. i.live ≡ true) ss → missed names causes (ss ++ ys) ≡ missed names causes ys
-none_missed names causes ss ys live = some_past _ ss ys (there ss live)
-  where
-    there : (is : List Item) → AllByRecursion (λ i. i.live ≡ true) is → AllByRecursion (λ f. cond (not (f.live || is_of names f) && list_any (λ n. n == f.event.name.0) causes) (Some f.event.name) None ≡ None) is
-    there [] h = tt
-    there (i ∷ is) (h, hs) = (ap (λ b. cond (not (b || is_of names i) && list_any (λ n. n == i.event.name.0) causes) (Some i.event.name) None) h, there is hs)
-
-some_append : {A C : Type 0} (f : A → Option C) (xs ys : List A) → first_some f (xs ++ ys) ≡ option_or (first_some f xs) (first_some f ys)
-some_append f [] ys = refl
-some_append {C = C} f (x ∷ xs) ys = by (f x) (some_append f xs ys)
-  where
-    by : (o : Option C) → first_some f (xs ++ ys) ≡ option_or (first_some f xs) (first_some f ys) → option_or o (first_some f (xs ++ ys)) ≡ option_or (option_or o (first_some f xs)) (first_some f ys)
-    by None h = h
-    by (Some c) h = refl
-
--- a settled item is live, so that it is only asked what it wrote
-pub unexpected_settled : (names : List EventName) (causes : List ℕ) (i : Item) (ss : List Settled) → unnamed causes i (map settled_item ss) ≡ unexpected names causes i (map settled_item ss)
-unexpected_settled names causes i [] = refl
-unexpected_settled names causes i (s ∷ ss) =
-    ap (option_or (cond (wrote_one_of (settled_item s) i && not (is_in causes s.name.0)) (Some s.name) None)) (unexpected_settled names causes i ss)
-
-pub unexpected_both : (names : List EventName) (causes : List ℕ) (i : Item) (ss ys : List Item) → unexpected names causes i (ss ++ ys) ≡ option_or (unexpected names causes i ss) (unexpected names causes i ys)
-unexpected_both names causes i ss ys = some_append _ ss ys
-
-module _ (names : List EventName) (all : List Item) where
-  pub crossed_past : (before ss ys : List Item) → filter (comes_back names) before ≡ [] → AllByRecursion (λ i. i.live ≡ true) ss → first_along (crossed_at names all) before (ss ++ ys) ≡ first_along (crossed_at names all) (before ++ ss) ys
-  crossed_past before [] ys none live = ap (λ b. first_along (crossed_at names all) b ys) (sym (append-nil before))
-  crossed_past before (i ∷ ss) ys none (h, live) =
-      let one : crossed_at names all before i ≡ None = nothing_met before i none h in
-      let more : filter (comes_back names) (before ++ i ∷ []) ≡ [] = filter-append (comes_back names) before (i ∷ []) ∙ ap (λ l. l ++ filter (comes_back names) (i ∷ [])) none ∙ none_back names (i ∷ []) [] (h, tt) in
-      ap (λ o. option_or o (first_along (crossed_at names all) (before ++ i ∷ []) (ss ++ ys))) one
-      ∙ crossed_past (before ++ i ∷ []) ss ys more live ∙ ap (λ b. first_along (crossed_at names all) b ys) (append_assoc before (i ∷ []) ss)
-    where
-      nothing_met : (bs : List Item) (j : Item) → filter (comes_back names) bs ≡ [] → j.live ≡ true → crossed_at names all bs j ≡ None
-      nothing_met bs j no_one is_live = ap (option_map (gap j.event.name)) crossed_live
-        where
-          crossed_live : crossed names all bs j ≡ None
-          crossed_live = ap (λ b. cond b (first_met j (filter (comes_back names) bs)) (cond (is_of names j) (unexpected names (causes_in all j) j bs) None)) is_live ∙ ap (first_met j) no_one

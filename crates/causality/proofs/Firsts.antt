@@ -1,5 +1,5 @@
 -- The first answer along a list.
-use Rattle.std.proofs.Common.{◌≡◌, ◌∙◌, Bool, true, false, cond, ◌&&◌, List, [], ◌∷◌, ◌++◌, map, filter, Option, Some, None, refl, ap}
+use Rattle.std.proofs.Common.{◌≡◌, ◌∙◌, Bool, true, false, cond, List, [], ◌∷◌, ◌++◌, map, Option, Some, None, refl, ap}
 use Rattle.std.specs.List.{AllByRecursion}
 use Rattle.std.specs.Option.{option_or}
 use Rattle.causality.specs.Selections.{first_some}
@@ -25,16 +25,6 @@ some_none f (x ∷ xs) (p, h) = ap (λ o. option_or o (first_some f xs)) p ∙ s
 pub some_until : {A C : Type 0} (f : A → Option C) (xs ys : List A) → AllByRecursion (λ a. f a ≡ None) ys → first_some f (xs ++ ys) ≡ first_some f xs
 some_until f [] ys h = some_none f ys h
 some_until f (x ∷ xs) ys h = ap (option_or (f x)) (some_until f xs ys h)
-
--- two tests, one after the other
-pub some_kept : {A C : Type 0} (p q : A → Bool) (name : A → C) (xs : List A) → first_some (λ a. cond (q a) (Some (name a)) None) (filter p xs) ≡ first_some (λ a. cond (p a && q a) (Some (name a)) None) xs
-some_kept p q name [] = refl
-some_kept p q name (x ∷ xs) = first (p x) (some_kept p q name xs)
-  where
-    first : (b : Bool) → first_some (λ a. cond (q a) (Some (name a)) None) (filter p xs) ≡ first_some (λ a. cond (p a && q a) (Some (name a)) None) xs
-        → first_some (λ a. cond (q a) (Some (name a)) None) (cond b (x ∷ filter p xs) (filter p xs)) ≡ option_or (cond (b && q x) (Some (name x)) None) (first_some (λ a. cond (p a && q a) (Some (name a)) None) xs)
-    first true h = ap (option_or (cond (q x) (Some (name x)) None)) h
-    first false h = h
 
 pub or_none : {B : Type 0} (a b : Option B) → option_or a b ≡ None → (a ≡ None) × (b ≡ None)
 or_none None b e = (refl, e)

@@ -89,7 +89,7 @@ pub record Follows (items : List Item) : Type 0 where
   pub older : (k : CellKey) (p : ℕ) (i : Item) (n : ℕ) → slice_get items p ≡ Some i → writer_of i k ≡ Some n → (q : ℕ) × (q < p) × (slice_get (map number items) q ≡ Some n)
 
 -- a list around the item at a place
-split_at : {A : Type 0} (xs : List A) (p : ℕ) (x : A) → slice_get xs p ≡ Some x → (us : List A) × (vs : List A) × (xs ≡ us ++ x ∷ vs) × (length us ≡ p)
+pub split_at : {A : Type 0} (xs : List A) (p : ℕ) (x : A) → slice_get xs p ≡ Some x → (us : List A) × (vs : List A) × (xs ≡ us ++ x ∷ vs) × (length us ≡ p)
 split_at [] p x g = cc
 split_at (y ∷ xs) zero x g = let is : y ≡ x = cc in ([], xs, ap (λ z. z ∷ xs) is, refl)
 split_at (y ∷ xs) (suc p) x g = let s = split_at xs p x g in (y ∷ s.0, s.1, ap (λ l. y ∷ l) s.2, ap suc s.3)

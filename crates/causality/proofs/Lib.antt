@@ -11,8 +11,11 @@ pub mod Firsts
 pub mod Following
 pub mod Gaps
 pub mod Indexing
-pub mod Lacking
-pub mod Returned
+pub mod Crossed
+pub mod Overwritten
+pub mod Missed
+pub mod FirstPairs
+pub mod FirstPlace
 pub mod Least
 pub mod NameSets
 pub mod Pairs

@@ -1,7 +1,7 @@
 -- The live events outside a set that follow a member are found on the lists of followers.
 use Rattle.std.proofs.Common.{◌≡◌, ◌∙◌, ℕ, zero, suc, ◌+◌, ◌-◌, ◌≤◌, ◌==◌, Bool, true, false, cond, ◌&&◌, ◌||◌, not, List, [], ◌∷◌, ◌++◌, Option, Some, None, length, map, drop, slice_get, inl, inr, refl, sym, ap, ap₂, arith, true≢false, eq-eqb, nat_lt, ltb-true}
 use Rattle.std.specs.List.{list_any, AllByRecursion}
-use Rattle.std.specs.Option.{option_map_or}
+use Rattle.std.specs.Option.{option_map_or, option_and_then}
 use Rattle.std.specs.Bool.{then_some}
 use Rattle.std.proofs.Math.Bool.{Bool-set}
 use Rattle.std.proofs.Math.Logic.{∥∥₁_elim}
@@ -24,7 +24,6 @@ use Rattle.journal.specs.declared.entry.Entry as code
 use Rattle.journal.specs.declared.settled.Settled.{Settled}
 use Rattle.causality.specs.Journals.{IsJournal}
 use Rattle.causality.specs.Names.{is_writer_in, wrote_last}
-use Rattle.causality.specs.Parting.{parts_from, parts_at}
 use Rattle.causality.specs.Placed.{follows, is_outsider, kept_if, place_if}
 use Rattle.causality.specs.Selections.{numbers}
 use Rattle.causality.specs.Walks.{is_of}
@@ -143,23 +142,23 @@ more_members names old new members next e opens is kept added before =
       | inr after ↦ f live out after
     ]) added before
 
--- ---- the place of what parts a member from the set
+-- ---- the place of what stands behind another and passes a test
 
-pub parting_kept : (places : Places) (names : List EventName) (opens : List Item) (settled : ℕ) (i : Item) (p q : ℕ) (e : EventName) (o : Option Item) → place_of places e ≡ Some q → o ≡ open_at opens settled (place_of places e) → nat_lt p q ≡ true
-    → then_some (option_map_or (parts_from names i) o false) q ≡ place_if places (parts_at names opens settled i p) e
-parting_kept places names opens settled i p q e o there is lt =
-    ap (λ r. then_some (option_map_or (parts_from names i) r false) q) (is ∙ ap (open_at opens settled) there)
-    ∙ ap (λ b. then_some (b && option_map_or (parts_from names i) (open_at opens settled (Some q)) false) q) (sym lt)
-    ∙ some_if (parts_at names opens settled i p q)
-    ∙ sym (ap (kept_if (parts_at names opens settled i p)) there)
-  where
-    some_if : (b : Bool) → then_some b q ≡ cond b (Some q) None
-    some_if true = refl
-    some_if false = refl
+pub some_if : (b : Bool) (p : ℕ) → then_some b p ≡ cond b (Some p) None
+some_if true p = refl
+some_if false p = refl
 
-pub parting_none : (places : Places) (names : List EventName) (opens : List Item) (settled : ℕ) (i : Item) (p q : ℕ) (e : EventName) → place_of places e ≡ Some q → nat_lt p q ≡ false → None ≡ place_if places (parts_at names opens settled i p) e
-parting_none places names opens settled i p q e there ge =
-    sym (ap (kept_if (parts_at names opens settled i p)) there ∙ ap (λ b. cond (b && option_map_or (parts_from names i) (open_at opens settled (Some q)) false) (Some q) None) ge)
+pub behind_kept : (places : Places) (test : Item → Bool) (opens : List Item) (settled p q : ℕ) (e : EventName) (o : Option Item) → place_of places e ≡ Some q → o ≡ open_at opens settled (place_of places e) → nat_lt p q ≡ true
+    → then_some (option_map_or test o false) q ≡ place_if places (λ r. nat_lt p r && option_map_or test (open_at opens settled (Some r)) false) e
+behind_kept places test opens settled p q e o there is lt =
+    ap (λ r. then_some (option_map_or test r false) q) (is ∙ ap (open_at opens settled) there)
+    ∙ ap (λ b. then_some (b && option_map_or test (open_at opens settled (Some q)) false) q) (sym lt)
+    ∙ some_if (nat_lt p q && option_map_or test (open_at opens settled (Some q)) false) q
+    ∙ sym (ap (kept_if (λ r. nat_lt p r && option_map_or test (open_at opens settled (Some r)) false)) there)
+
+pub behind_none : (places : Places) (test : Item → Bool) (opens : List Item) (settled p q : ℕ) (e : EventName) → place_of places e ≡ Some q → nat_lt p q ≡ false → None ≡ place_if places (λ r. nat_lt p r && option_map_or test (open_at opens settled (Some r)) false) e
+behind_none places test opens settled p q e there ge =
+    sym (ap (kept_if (λ r. nat_lt p r && option_map_or test (open_at opens settled (Some r)) false)) there ∙ ap (λ b. cond (b && option_map_or test (open_at opens settled (Some q)) false) (Some q) None) ge)
 
 pub not_less : (p q : ℕ) → q ≤ p → nat_lt p q ≡ false
 not_less p q le = by (nat_lt p q) refl
@@ -169,8 +168,11 @@ not_less p q le = by (nat_lt p q) refl
     by true e = absurd (let lt = ltb-true p q e in omega (arith, lt, le))
 
 pub kept_there : (places : Places) (test : ℕ → Bool) (e : EventName) (p : ℕ) → place_of places e ≡ Some p → then_some (test p) p ≡ place_if places test e
-kept_there places test e p there = some_if (test p) ∙ sym (ap (kept_if test) there)
-  where
-    some_if : (b : Bool) → then_some b p ≡ cond b (Some p) None
-    some_if true = refl
-    some_if false = refl
+kept_there places test e p there = some_if (test p) p ∙ sym (ap (kept_if test) there)
+
+-- what is asked of an event that is open, where it stands
+pub opened : {A : Type 0} (places : Places) (opens : List Item) (settled : ℕ) (e : EventName) (p : ℕ) (o : Option Item) (f : ℕ → Item → Option A) → place_of places e ≡ Some p → o ≡ open_at opens settled (place_of places e)
+    → option_and_then (f p) o ≡ option_and_then (λ q. option_and_then (f q) (open_at opens settled (Some q))) (place_of places e)
+opened places opens settled e p o f there is =
+    ap (option_and_then (f p)) (is ∙ ap (open_at opens settled) there)
+    ∙ sym (ap (option_and_then (λ q. option_and_then (f q) (open_at opens settled (Some q)))) there)

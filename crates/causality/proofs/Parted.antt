@@ -145,13 +145,13 @@ module _ (places : Places) (ss : List Settled) (xs : List code.Entry) (names lis
             let one : there.0 ≡ i = cc in
             absurd (true≢false (sym (ap (is_of names) one ∙ member) ∙ all_place _ (map settled_item ss) none (length us) there.0 there.1))
 
-    followed_from : (us rest : List Item) → items ≡ us ++ rest → AllByRecursion (λ i. is_of names i ≡ true → i.live ≡ true) rest → first_at names answer (length us) rest ≡ first_followed names rest
+    followed_from : (us rest : List Item) → items ≡ us ++ rest → AllByRecursion (λ i. is_of names i ≡ true → i.live ≡ true) rest → first_at (is_of names) answer (length us) rest ≡ first_followed names rest
     followed_from us [] is alive = refl
     followed_from us (i ∷ rest) is (l, ls) =
         ap₂ option_or
         (cond_same (is_of names i) (answer (length us)) (option_map (gap i.event.name) (follower names i rest)) None
         (λ member. (let behind = not_settled us i rest is member in answer_is us i rest is behind ∙ ap (option_map (gap i.event.name)) (first_behind us i rest is behind member (l member)))))
-        (ap (λ n. first_at names answer n rest) (sym (one_more us i)) ∙ followed_from (us ++ i ∷ []) rest (is ∙ sym (append_assoc us (i ∷ []) rest)) ls)
+        (ap (λ n. first_at (is_of names) answer n rest) (sym (one_more us i)) ∙ followed_from (us ++ i ∷ []) rest (is ∙ sym (append_assoc us (i ∷ []) rest)) ls)
 
     -- THE FIRST GAP
     gap_by_place : option_and_then answer (least_place places (λ p. is_some (answer p)) names) ≡ first_followed names items

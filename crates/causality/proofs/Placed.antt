@@ -126,7 +126,7 @@ apart_items items journal = ∥∥₁_map journal (λ j. (let f : Follows items 
 
 -- ---- the least of places
 
-lesser_right : (a b : Option ℕ) (p : ℕ) → lesser_place a b ≡ Some p → (a ≡ Some p) ⊎ (b ≡ Some p)
+pub lesser_right : (a b : Option ℕ) (p : ℕ) → lesser_place a b ≡ Some p → (a ≡ Some p) ⊎ (b ≡ Some p)
 lesser_right None b p h = inr h
 lesser_right (Some x) None p h = inl h
 lesser_right (Some x) (Some y) p h = by (nat_lt x y) refl
@@ -138,12 +138,12 @@ lesser_right (Some x) (Some y) p h = by (nat_lt x y) refl
     by true e = inl (ap Some (let lt = ltb-true x y e in omega (arith, lt, one)))
     by false e = inr (ap Some (let le : y ≤ x = ltb-false x y e in omega (arith, le, one)))
 
-lesser_first : (a b : Option ℕ) (q : ℕ) → a ≡ Some q → (p : ℕ) × ((lesser_place a b ≡ Some p) × (p ≤ q))
+pub lesser_first : (a b : Option ℕ) (q : ℕ) → a ≡ Some q → (p : ℕ) × ((lesser_place a b ≡ Some p) × (p ≤ q))
 lesser_first None b q h = cc
 lesser_first (Some x) None q h = (x, (refl, (let is : x ≡ q = cc in omega (arith, is))))
 lesser_first (Some x) (Some y) q h = (min x y, (refl, (let is : x ≡ q = cc in omega (arith, is))))
 
-lesser_second : (a b : Option ℕ) (q : ℕ) → b ≡ Some q → (p : ℕ) × ((lesser_place a b ≡ Some p) × (p ≤ q))
+pub lesser_second : (a b : Option ℕ) (q : ℕ) → b ≡ Some q → (p : ℕ) × ((lesser_place a b ≡ Some p) × (p ≤ q))
 lesser_second None b q h = (q, (h, omega arith))
 lesser_second (Some x) None q h = cc
 lesser_second (Some x) (Some y) q h = (min x y, (refl, (let is : y ≡ q = cc in omega (arith, is))))
@@ -155,7 +155,7 @@ named_is (Some x) p h = ap Some (eqb-true x p h)
 pub is_named : (o : Option ℕ) (p : ℕ) → o ≡ Some p → is_name o p ≡ true
 is_named o p h = ap (λ a. is_name a p) h ∙ eq-eqb p p refl
 
-fold_right : (os : List (Option ℕ)) (a : Option ℕ) (p : ℕ) → fold lesser_place a os ≡ Some p → (a ≡ Some p) ⊎ (list_any (λ o. is_name o p) os ≡ true)
+pub fold_right : (os : List (Option ℕ)) (a : Option ℕ) (p : ℕ) → fold lesser_place a os ≡ Some p → (a ≡ Some p) ⊎ (list_any (λ o. is_name o p) os ≡ true)
 fold_right [] a p h = inl h
 fold_right (o ∷ os) a p h = elim (fold_right os (lesser_place a o) p h) [
   | inl g ↦ elim (lesser_right a o p g) [
@@ -165,7 +165,7 @@ fold_right (o ∷ os) a p h = elim (fold_right os (lesser_place a o) p h) [
   | inr there ↦ inr (or_right (is_name o p) _ there)
 ]
 
-fold_least : (os : List (Option ℕ)) (a : Option ℕ) (q : ℕ) → (a ≡ Some q) ⊎ (list_any (λ o. is_name o q) os ≡ true) → (p : ℕ) × ((fold lesser_place a os ≡ Some p) × (p ≤ q))
+pub fold_least : (os : List (Option ℕ)) (a : Option ℕ) (q : ℕ) → (a ≡ Some q) ⊎ (list_any (λ o. is_name o q) os ≡ true) → (p : ℕ) × ((fold lesser_place a os ≡ Some p) × (p ≤ q))
 fold_least [] a q (inl h) = (q, (h, omega arith))
 fold_least [] a q (inr h) = absurd (true≢false (sym h))
 fold_least (o ∷ os) a q (inl h) =

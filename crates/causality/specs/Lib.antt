@@ -3,7 +3,8 @@ pub mod Causes
 pub mod Selections
 pub mod Names
 pub mod Walks
-pub mod Returning
 pub mod Placed
 pub mod Parting
+pub mod Missing
+pub mod Crossing
 pub mod Exact

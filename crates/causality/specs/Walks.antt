@@ -1,10 +1,9 @@
 -- What the program finds as it goes over items, of which it knows no causes.
-use Rattle.std.specs.Prelude.{◌&&◌, ◌||◌, ◌==◌, not, ℕ, Bool, cond, List, [], ◌∷◌, ◌++◌, filter, Option, Some, None}
+use Rattle.std.specs.Prelude.{◌&&◌, ◌||◌, ◌==◌, not, ℕ, Bool, cond, List, [], ◌∷◌, ◌++◌, Option, Some, None}
 use Rattle.std.specs.Option.{option_map, option_or}
 use Rattle.history.specs.Journal.{is_in}
 use Rattle.ids.specs.declared.names.EventName.{EventName}
 use Rattle.journal.specs.Items.{Item, wrote_one_of}
-use Rattle.journal.specs.Lines.{causes_in}
 use Rattle.causality.specs.Selections.{numbers, first_some, gap}
 use Rattle.causality.specs.Names.{wrote_last}
 use Rattle.causality.specs.declared.selection.Gap.{Gap}
@@ -47,34 +46,3 @@ first_along one before (x ∷ xs) = option_or (one before x) (first_along one (b
 -- live, or of the set
 abbrev pub stays : List EventName → Item → Bool
 stays names i = i.live || is_of names i
-
--- of the set, and undone
-abbrev pub comes_back : List EventName → Item → Bool
-comes_back names i = not i.live && is_of names i
-
--- the first of these that has one of these numbers, and is neither live nor of the set
-abbrev pub missed : List EventName → List ℕ → List Item → Option EventName
-missed names causes before = first_item (λ f. not (stays names f) && is_in causes f.event.name.0) before
-
--- of an item that comes back: the first item before it that it misses
-abbrev pub missed_at : List EventName → List Item → List Item → Item → Option Gap
-missed_at names all before i = cond (comes_back names i) (option_map (gap i.event.name) (missed names (causes_in all i) before)) None
-
--- the first of these that is live or of the set, wrote what an item touched, and has none of these numbers
-abbrev pub unexpected : List EventName → List ℕ → Item → List Item → Option EventName
-unexpected names causes i before = first_item (λ f. stays names f && (wrote_one_of f i && not (is_in causes f.event.name.0))) before
-
--- the first of these that wrote what an item touched, and has none of these numbers
-abbrev pub unnamed : List ℕ → Item → List Item → Option EventName
-unnamed causes i before = first_item (λ f. wrote_one_of f i && not (is_in causes f.event.name.0)) before
-
--- the first of these that wrote what an item touched
-abbrev pub first_met : Item → List Item → Option EventName
-first_met i before = first_item (λ f. wrote_one_of f i) before
-
--- what an item crosses: if it is live, only one that comes back
-abbrev pub crossed : List EventName → List Item → List Item → Item → Option EventName
-crossed names all before i = cond i.live (first_met i (filter (comes_back names) before)) (cond (is_of names i) (unexpected names (causes_in all i) i before) None)
-
-abbrev pub crossed_at : List EventName → List Item → List Item → Item → Option Gap
-crossed_at names all before i = option_map (gap i.event.name) (crossed names all before i)

@@ -11,7 +11,7 @@ ghost use Rattle.causality.specs.Selections.{numbers};
 ghost use Rattle.causality.specs.Causes.{Indexes, IsWriter, place_of, has_place, reached_at, number_at};
 
 use ids::names::EventName;
-use journal::entry::{Entry, Touched};
+use journal::entry::Touched;
 use journal::journal::Journal;
 use std::alloc::{AllocError, Global};
 use std::collections::{BTreeMap, BTreeSet};

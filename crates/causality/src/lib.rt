@@ -3,9 +3,10 @@
 
 pub mod causes;
 pub mod cone;
+mod crossing;
+mod missing;
 pub mod names;
 mod parting;
-pub mod restoring;
-mod returning;
 pub mod selection;
 pub mod theorems;
+mod versions;

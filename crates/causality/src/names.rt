@@ -54,7 +54,7 @@ impl<'a> NameSet<'a> {
 }
 
 /// These names as a set.
-pub(crate) fn sorted(alloc: Global, names: &[EventName]) -> Result<BTreeSet<EventName>, AllocError>
+fn sorted(alloc: Global, names: &[EventName]) -> Result<BTreeSet<EventName>, AllocError>
     ensures { IfOk result (λ set. SameNames set.keys names.now) }
 {
     let mut set = BTreeSet::new(alloc);
@@ -65,7 +65,7 @@ pub(crate) fn sorted(alloc: Global, names: &[EventName]) -> Result<BTreeSet<Even
 }
 
 /// Whether a set has a name.
-pub(crate) fn has(set: &BTreeSet<EventName>, name: EventName) -> bool
+fn has(set: &BTreeSet<EventName>, name: EventName) -> bool
     ensures { result ≡ is_in (numbers set.now.keys) name.0 }
 {
     set.contains(&name)

@@ -1,5 +1,5 @@
 // Who from outside a set came of a member.
-ghost use Rattle.std.specs.Prelude.{◌≡◌, ◌&&◌, ◌||◌, ◌==◌, ℕ, not, true, false, map, length, None, Some, is_some, IfOk, OnOk};
+ghost use Rattle.std.specs.Prelude.{◌≡◌, ◌&&◌, ◌||◌, ◌==◌, true, false, map, length, None, Some, is_some, IfOk, OnOk};
 ghost use Rattle.std.specs.List.{list_any, AllByRecursion};
 ghost use Rattle.std.specs.Option.{option_map, option_and_then};
 ghost use Rattle.history.specs.Journal.{is_in};
@@ -155,7 +155,7 @@ fn first_parting(
 }
 
 /// The entry at a place, if it is not settled.
-fn open_at(journal: Journal, place: usize) -> Option<&Entry>
+pub(crate) fn open_at(journal: Journal, place: usize) -> Option<&Entry>
     ensures { option_map (λ e. item_of e.now) result ≡ open_at (map item_of journal.entry.entries.now) (length journal.entry.settled.now) (Some place) }
 {
     if place < journal.settled.len() {

@@ -1,5 +1,5 @@
 // What a set of events lacks for an undo or a redo.
-ghost use Rattle.std.specs.Prelude.{◌≡◌, ◌≤◌, ◌<◌, ◌||◌, ℕ, All, map, length, Some, IfOk, OnOk};
+ghost use Rattle.std.specs.Prelude.{◌≡◌, ◌≤◌, ◌<◌, ◌||◌, ℕ, All, length, Some, None, IfOk, OnOk};
 ghost use Rattle.std.specs.List.{list_any};
 ghost use Rattle.std.specs.List.Sorted.{IsStrictlySortedBy};
 ghost use Rattle.std.specs.Ordering.{nat_cmp};
@@ -13,9 +13,10 @@ ghost use Rattle.causality.specs.Journals.{IsJournal, NoneSettled};
 ghost use Rattle.causality.specs.Placed.{is_marked, is_as, place_if, lesser_place, least_place, name_there};
 ghost use Rattle.causality.specs.Selections as model;
 
+use crate::crossing::first_crossed;
+use crate::missing::first_missing;
 use crate::names::NameSet;
 use crate::parting::{least_gap, outsiders};
-use crate::returning::{first_crossed, first_missed};
 use ids::names::EventName;
 use journal::entry::{Entry, Mark};
 use journal::journal::Journal;
@@ -154,31 +155,25 @@ pub fn first_gap(
 }
 
 /// Of what is live together with this set: the first member of which a cause is missing, and the first such cause.
-pub fn first_missing_cause(
-    alloc: Global,
-    journal: Journal,
-    names: &NameSet,
-) -> Result<Option<Gap>, AllocError>
+pub fn first_missing_cause(journal: Journal, names: &NameSet) -> Option<Gap>
     requires journal { IsJournal (items_of journal) }
     requires open { NoneSettled names.now journal }
-    ensures { IfOk result (λ gap. gap ≡ model.first_missing_cause names.now (lines_of (items_of journal.entry))) }
+    ensures { result ≡ model.first_missing_cause names.now (lines_of (items_of journal.entry)) }
 {
     // All causes of a live event are live.
-    first_missed(alloc, journal, names)
+    first_missing(journal, names)
 }
 
-/// Of what is live together with this set: the first member that touches what an earlier one wrote that is no cause of it, and the
-/// first such one.
-pub fn first_crossing(
-    alloc: Global,
-    journal: Journal,
-    names: &NameSet,
-) -> Result<Option<Gap>, AllocError>
+/// Of what is live together with this set, of which no cause is missing: the first member that touches what an earlier one wrote that is
+/// no cause of it, and the first such one.
+pub fn first_crossing(journal: Journal, names: &NameSet) -> Option<Gap>
     requires journal { IsJournal (items_of journal) }
     requires open { NoneSettled names.now journal }
-    ensures { IfOk result (λ gap. gap ≡ model.first_crossing names.now (lines_of (items_of journal.entry))) }
+    requires whole { model.first_missing_cause names.now (lines_of (items_of journal)) ≡ None }
+    ensures { result ≡ model.first_crossing names.now (lines_of (items_of journal.entry)) }
 {
-    first_crossed(alloc, journal, names)
+    // Where all last writers are there, who crosses another found what that one wrote over.
+    first_crossed(journal, names)
 }
 
 /// Adds a place, where there is one.

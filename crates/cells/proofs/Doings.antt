@@ -1,7 +1,7 @@
 -- What holds of all that is done to cells.
 use Rattle.std.proofs.Common.{◌≡◌, Bool, true, false, ◌||◌, cond, Option, Some, refl, ap, ◌∙◌}
 use Rattle.std.proofs.lemmas.Bool.{or_left, or_right, or_parts}
-use Rattle.cells.specs.Doing.{Doing, over, reads, writes, Under, touching, holding, play, and_then, with_state, OneAfterAnother, Later, CellsOnlyGrow, Alike, GoesAlike}
+use Rattle.cells.specs.Doing.{Doing, over, reads, writes, Under, touching, holding, play, with_state, OneAfterAnother, Later, CellsOnlyGrow, Alike, GoesAlike}
 
 pub one_after_another : (K C A B : Type 0) → OneAfterAnother K C A B
 one_after_another K C A B same (over a) f u = refl

@@ -1,5 +1,5 @@
 // Cells in the order of their keys.
-ghost use Rattle.std.specs.Prelude.{◌≡◌, ◌∷◌, List, IfOk, OnOk};
+ghost use Rattle.std.specs.Prelude.{◌∷◌, List, IfOk, OnOk};
 ghost use Rattle.std.specs.BTreeMap.{get as get_listed};
 ghost use Rattle.cells.specs.Clones.{ContentClones, Lists};
 ghost use Rattle.cells.specs.Seen.{seen};

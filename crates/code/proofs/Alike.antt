@@ -3,11 +3,13 @@ use Rattle.std.proofs.Common.{◌≡◌, ℕ, Bool, true, ◌&&◌, List, [], �
 use Rattle.std.specs.Str.{bytes_eq}
 use Rattle.std.proofs.lemmas.Slice.Eq.{bytes_eq-Decides}
 use Rattle.std.proofs.lemmas.Bool.{false≢true}
-use Rattle.kernele.specs.Tree.{Tree, null_tree, bool_tree, int_tree, text_tree, noun, define, variable, assign, call, list_tree, same_tree, define_list, hide, if_tree, while_tree, for_tree, try_tree, throw_tree, object_tree, escape_tree, send, when_tree, when_catch_tree, new_promise, break_ref, state_ref, Trees, none, and_then, Methods, no_methods, and_method}
+use Rattle.kernele.specs.Tree.{Tree, null_tree, bool_tree, int_tree, text_tree, noun, define, variable, assign, call, list_tree, same_tree, define_list, hide, if_tree, while_tree, for_tree, try_tree, primitive, object_tree, escape_tree, send, when_tree, when_catch_tree, new_promise, Trees, none, and_then, Methods, no_methods, and_method}
 use Rattle.kernele.specs.declared.tree.Pattern.{Pattern}
 use Rattle.kernele.specs.declared.tree.Pattern.TheVariants as pattern
+use Rattle.kernele.specs.declared.tree.Primitive.{Primitive}
+use Rattle.kernele.specs.declared.tree.Primitive.TheVariants as primitives
 use Rattle.values.proofs.Equivalence.{bool_itself, int_itself, bytes_itself, bool_equal, int_equal, both, first_of_both, second_of_both}
-use Rattle.code.specs.Sameness.{pattern_alike, patterns_alike, alike, all_alike, methods_alike, TellsEqual}
+use Rattle.code.specs.Sameness.{pattern_alike, patterns_alike, primitive_alike, alike, all_alike, methods_alike, TellsEqual}
 
 -- two tests
 both_hold : {p q : Bool} → (p && q) ≡ true → (p ≡ true) × (q ≡ true)
@@ -34,6 +36,17 @@ patterns_equal [] [] h = refl
 patterns_equal (p ∷ ps) (q ∷ qs) h = let s = both_hold {p = pattern_alike p q} h in λ i. pattern_equal p q s.0 i ∷ patterns_equal ps qs s.1 i
 patterns_equal _ _ h = absurd (false≢true h)
 
+primitive_itself : (q : Primitive) → primitive_alike q q ≡ true
+primitive_itself primitives.Throw = refl
+primitive_itself primitives.BreakRef = refl
+primitive_itself primitives.StateRef = refl
+
+primitive_equal : (p q : Primitive) → primitive_alike p q ≡ true → p ≡ q
+primitive_equal primitives.Throw primitives.Throw h = refl
+primitive_equal primitives.BreakRef primitives.BreakRef h = refl
+primitive_equal primitives.StateRef primitives.StateRef h = refl
+primitive_equal _ _ h = absurd (false≢true h)
+
 mutual
   tree_itself : (t : Tree) → alike t t ≡ true
   tree_itself null_tree = refl
@@ -53,15 +66,13 @@ mutual
   tree_itself (while_tree c ts) = both _ _ (tree_itself c) (trees_itself ts)
   tree_itself (for_tree p e ts) = both _ _ (both _ _ (pattern_itself p) (tree_itself e)) (trees_itself ts)
   tree_itself (try_tree ts p us) = both _ _ (both _ _ (trees_itself ts) (pattern_itself p)) (trees_itself us)
-  tree_itself (throw_tree e) = tree_itself e
+  tree_itself (primitive q e) = both _ _ (primitive_itself q) (tree_itself e)
   tree_itself (object_tree p ms) = both _ _ (pattern_itself p) (methods_itself ms)
   tree_itself (escape_tree x ts) = both _ _ (bytes_itself x) (trees_itself ts)
   tree_itself (send r v args) = both _ _ (both _ _ (bytes_itself v) (tree_itself r)) (trees_itself args)
   tree_itself (when_tree e ts) = both _ _ (tree_itself e) (trees_itself ts)
   tree_itself (when_catch_tree e ts p us) = both _ _ (both _ _ (both _ _ (tree_itself e) (trees_itself ts)) (pattern_itself p)) (trees_itself us)
   tree_itself new_promise = refl
-  tree_itself (break_ref e) = tree_itself e
-  tree_itself (state_ref e) = tree_itself e
 
   pub trees_itself : (ts : Trees) → all_alike ts ts ≡ true
   trees_itself none = refl
@@ -102,7 +113,7 @@ mutual
       let k = both_hold {p = all_alike ts us && pattern_alike p q} h in
       let l = both_hold {p = all_alike ts us} k.0 in
       λ i. try_tree (trees_equal ts us l.0 i) (pattern_equal p q l.1 i) (trees_equal hs ks k.1 i)
-  tree_equal (throw_tree e) (throw_tree f) h = ap throw_tree (tree_equal e f h)
+  tree_equal (primitive p e) (primitive q f) h = let s = both_hold {p = primitive_alike p q} h in λ i. primitive (primitive_equal p q s.0 i) (tree_equal e f s.1 i)
   tree_equal (object_tree p ms) (object_tree q ns) h = let s = both_hold {p = pattern_alike p q} h in λ i. object_tree (pattern_equal p q s.0 i) (methods_equal ms ns s.1 i)
   tree_equal (escape_tree x ts) (escape_tree y us) h = let s = both_hold {p = bytes_eq x y} h in λ i. escape_tree (bytes_equal x y s.0 i) (trees_equal ts us s.1 i)
   tree_equal (send r v args) (send s w brgs) h =
@@ -116,8 +127,6 @@ mutual
       let m = both_hold {p = alike e f} l.0 in
       λ i. when_catch_tree (tree_equal e f m.0 i) (trees_equal ts us m.1 i) (pattern_equal p q l.1 i) (trees_equal hs ks k.1 i)
   tree_equal new_promise new_promise h = refl
-  tree_equal (break_ref e) (break_ref f) h = ap break_ref (tree_equal e f h)
-  tree_equal (state_ref e) (state_ref f) h = ap state_ref (tree_equal e f h)
   tree_equal _ _ h = absurd (false≢true h)
 
   pub trees_equal : (ts us : Trees) → all_alike ts us ≡ true → ts ≡ us

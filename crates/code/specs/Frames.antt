@@ -88,7 +88,7 @@ abbrev mutual
   fits own frame (code.While' p c q shape body) = fits own frame c × fits_row false (after own (tree_of_code c) frame) body
   fits own frame (code.For' pattern p e q shape body) = fits own frame e × fits_row false (after own (tree_of_code e) frame ++ only_names (name_of pattern)) body
   fits own frame (code.Try' p shape body pattern q shape2 handler) = fits_row false frame body × fits_row false (frame ++ only_names (name_of pattern)) handler
-  fits own frame (code.Throw' p e) = fits own frame e
+  fits own frame (code.Primitive' q p e) = fits own frame e
   -- a method begins with the names that the object captured, the object's own name, and its parameters; an index is that of the methods
   fits own frame (code.Object' pattern captured p shape ms index) =
       (captured_names_of captured.value.items ≡ captures pattern (methods_of_code_row ms)) × all_placed frame captured.value.items
@@ -105,8 +105,6 @@ abbrev mutual
       × all_placed (after own (tree_of_code e) frame) captured.value.items × fits_row false (captured_names_of captured.value.items) body
       × fits_row false (captured_names_of captured.value.items ++ only_names (name_of pattern)) handler
   fits own frame code.NewPromise = Unit {0}
-  fits own frame (code.BreakRef' p e) = fits own frame e
-  fits own frame (code.StateRef' p e) = fits own frame e
 
   pub fits_row : {n : _} → Bool → Frame → code.Row_of-Code n → Type 0
   fits_row own frame code.end_of-Code = Unit {0}

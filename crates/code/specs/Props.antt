@@ -56,7 +56,7 @@ mutual
       λ i. (fits-prop own frame e a.0 b.0 i, row-prop false (after own (tree_of_code e) frame ++ only_names (name_of pattern)) body a.1 b.1 i)
   fits-prop own frame (code.Try' p shape body pattern q shape2 handler) a b =
       λ i. (row-prop false frame body a.0 b.0 i, row-prop false (frame ++ only_names (name_of pattern)) handler a.1 b.1 i)
-  fits-prop own frame (code.Throw' p e) a b = fits-prop own frame e a b
+  fits-prop own frame (code.Primitive' q p e) a b = fits-prop own frame e a b
   fits-prop own frame (code.Object' pattern captured p shape ms index) a b =
       λ i. (
         Frame-set (captured_names_of captured.value.items) (captures pattern (methods_of_code_row ms)) a.0 b.0 i,
@@ -82,8 +82,6 @@ mutual
         row-prop false (captured_names_of captured.value.items ++ only_names (name_of pattern)) handler a.4 b.4 i,
       )
   fits-prop own frame code.NewPromise a b = refl
-  fits-prop own frame (code.BreakRef' p e) a b = fits-prop own frame e a b
-  fits-prop own frame (code.StateRef' p e) a b = fits-prop own frame e a b
 
   row-prop : {n : _} (own : Bool) (frame : Frame) (k : code.Row_of-Code n) → IsProp (fits_row own frame k)
   row-prop own frame code.end_of-Code a b = refl

@@ -2,9 +2,11 @@
 use Rattle.std.specs.Prelude.{Bool, true, false, ◌&&◌, ◌≡◌, List, [], ◌∷◌}
 use Rattle.std.specs.Bool.{Decides}
 use Rattle.std.specs.Str.{bytes_eq}
-use Rattle.kernele.specs.Tree.{Tree, null_tree, bool_tree, int_tree, text_tree, noun, define, variable, assign, call, list_tree, same_tree, define_list, hide, if_tree, while_tree, for_tree, try_tree, throw_tree, object_tree, escape_tree, send, when_tree, when_catch_tree, new_promise, break_ref, state_ref, Trees, none, and_then, Methods, no_methods, and_method}
+use Rattle.kernele.specs.Tree.{Tree, null_tree, bool_tree, int_tree, text_tree, noun, define, variable, assign, call, list_tree, same_tree, define_list, hide, if_tree, while_tree, for_tree, try_tree, primitive, object_tree, escape_tree, send, when_tree, when_catch_tree, new_promise, Trees, none, and_then, Methods, no_methods, and_method}
 use Rattle.kernele.specs.declared.tree.Pattern.{Pattern}
 use Rattle.kernele.specs.declared.tree.Pattern.TheVariants as pattern
+use Rattle.kernele.specs.declared.tree.Primitive.{Primitive}
+use Rattle.kernele.specs.declared.tree.Primitive.TheVariants as primitives
 use Rattle.code.specs.declared.code.MethodCode.{MethodCode}
 use Rattle.code.specs.View.{trees_of_codes}
 use Rattle.values.specs.Same.{same_bool, same_int}
@@ -18,6 +20,12 @@ abbrev pub patterns_alike : List Pattern → List Pattern → Bool
 patterns_alike [] [] = true
 patterns_alike (p ∷ ps) (q ∷ qs) = pattern_alike p q && patterns_alike ps qs
 patterns_alike _ _ = false
+
+abbrev pub primitive_alike : Primitive → Primitive → Bool
+primitive_alike primitives.Throw primitives.Throw = true
+primitive_alike primitives.BreakRef primitives.BreakRef = true
+primitive_alike primitives.StateRef primitives.StateRef = true
+primitive_alike _ _ = false
 
 -- names and texts by their bytes, parts and blocks one by one; different constructs are never alike
 abbrev mutual
@@ -39,15 +47,13 @@ abbrev mutual
   alike (while_tree c ts) (while_tree d us) = alike c d && all_alike ts us
   alike (for_tree p e ts) (for_tree q f us) = pattern_alike p q && alike e f && all_alike ts us
   alike (try_tree ts p hs) (try_tree us q ks) = all_alike ts us && pattern_alike p q && all_alike hs ks
-  alike (throw_tree e) (throw_tree f) = alike e f
+  alike (primitive p e) (primitive q f) = primitive_alike p q && alike e f
   alike (object_tree p ms) (object_tree q ns) = pattern_alike p q && methods_alike ms ns
   alike (escape_tree x ts) (escape_tree y us) = bytes_eq x y && all_alike ts us
   alike (send r v args) (send s w brgs) = bytes_eq v w && alike r s && all_alike args brgs
   alike (when_tree e ts) (when_tree f us) = alike e f && all_alike ts us
   alike (when_catch_tree e ts p hs) (when_catch_tree f us q ks) = alike e f && all_alike ts us && pattern_alike p q && all_alike hs ks
   alike new_promise new_promise = true
-  alike (break_ref e) (break_ref f) = alike e f
-  alike (state_ref e) (state_ref f) = alike e f
   alike _ _ = false
 
   pub all_alike : Trees → Trees → Bool

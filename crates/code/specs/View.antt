@@ -1,6 +1,6 @@
 -- What resolved code stands for: the tree that it was made from.
 use Rattle.std.specs.Prelude.{List, [], ◌∷◌}
-use Rattle.kernele.specs.Tree.{Tree, null_tree, bool_tree, int_tree, text_tree, noun, define, variable, assign, call, list_tree, same_tree, define_list, hide, if_tree, while_tree, for_tree, try_tree, throw_tree, object_tree, escape_tree, send, when_tree, when_catch_tree, new_promise, break_ref, state_ref, Trees, none, and_then, Methods, no_methods, and_method}
+use Rattle.kernele.specs.Tree.{Tree, null_tree, bool_tree, int_tree, text_tree, noun, define, variable, assign, call, list_tree, same_tree, define_list, hide, if_tree, while_tree, for_tree, try_tree, primitive, object_tree, escape_tree, send, when_tree, when_catch_tree, new_promise, Trees, none, and_then, Methods, no_methods, and_method}
 use Rattle.code.specs.declared.code.Code as code
 use Rattle.code.specs.declared.code.Code.{Code}
 use Rattle.code.specs.declared.code.MethodCode.{MethodCode}
@@ -24,15 +24,13 @@ abbrev mutual
   tree_of_code (code.While' p c q shape body) = while_tree (tree_of_code c) (trees_of_code_row body)
   tree_of_code (code.For' pattern p e q shape body) = for_tree pattern (tree_of_code e) (trees_of_code_row body)
   tree_of_code (code.Try' p shape body pattern q shape2 handler) = try_tree (trees_of_code_row body) pattern (trees_of_code_row handler)
-  tree_of_code (code.Throw' p e) = throw_tree (tree_of_code e)
+  tree_of_code (code.Primitive' q p e) = primitive q (tree_of_code e)
   tree_of_code (code.Object' pattern captured p shape ms index) = object_tree pattern (methods_of_code_row ms)
   tree_of_code (code.Escape' x p shape body) = escape_tree x (trees_of_code_row body)
   tree_of_code (code.Send' p r verb q shape args) = send (tree_of_code r) verb (trees_of_code_row args)
   tree_of_code (code.When' p e captured q shape body) = when_tree (tree_of_code e) (trees_of_code_row body)
   tree_of_code (code.WhenCatch' p e captured q shape body pattern r shape2 handler) = when_catch_tree (tree_of_code e) (trees_of_code_row body) pattern (trees_of_code_row handler)
   tree_of_code code.NewPromise = new_promise
-  tree_of_code (code.BreakRef' p e) = break_ref (tree_of_code e)
-  tree_of_code (code.StateRef' p e) = state_ref (tree_of_code e)
 
   pub trees_of_code_row : {n : _} → code.Row_of-Code n → Trees
   trees_of_code_row code.end_of-Code = none

@@ -2,7 +2,7 @@
 
 use crate::index::MethodIndex;
 use ids::text::Text;
-use kernele::tree::Pattern;
+use kernele::tree::{Pattern, Primitive};
 use std::sync::Arc;
 use values::verb::Verb;
 
@@ -48,7 +48,8 @@ pub enum Code {
     For(Pattern, Arc<Code>, Arc<Vec<Code>>),
     /// A body, what its problem is bound to, and the handler.
     Try(Arc<Vec<Code>>, Pattern, Arc<Vec<Code>>),
-    Throw(Arc<Code>),
+    /// A primitive, of the value of this.
+    Primitive(Primitive, Arc<Code>),
     /// What the object is bound to, what it captures, its methods, and their index if they are many.
     Object(Pattern, Arc<Vec<Capture>>, Arc<Vec<MethodCode>>, Option<Arc<MethodIndex>>),
     /// The name of the ejector, and the block that it ends.
@@ -61,10 +62,6 @@ pub enum Code {
     WhenCatch(Arc<Code>, Arc<Vec<Capture>>, Arc<Vec<Code>>, Pattern, Arc<Vec<Code>>),
     /// A promise and its resolver.
     NewPromise,
-    /// A broken value, of this problem.
-    BreakRef(Arc<Code>),
-    /// How far a value is known.
-    StateRef(Arc<Code>),
 }
 
 // By hand, so that what drops one elsewhere calls this and is not proved anew for all that it holds.
@@ -89,15 +86,13 @@ impl Drop for Code {
             | Code::While(_, _)
             | Code::For(_, _, _)
             | Code::Try(_, _, _)
-            | Code::Throw(_)
+            | Code::Primitive(_, _)
             | Code::Object(_, _, _, _)
             | Code::Escape(_, _)
             | Code::Send(_, _, _)
             | Code::When(_, _, _)
             | Code::WhenCatch(_, _, _, _, _)
-            | Code::NewPromise
-            | Code::BreakRef(_)
-            | Code::StateRef(_) => {}
+            | Code::NewPromise => {}
         }
     }
 }

@@ -1,10 +1,10 @@
 // When two programs are the same. Where their names are found is not compared, since it goes by the names.
 ghost use Rattle.std.specs.Prelude.{◌≡◌};
 ghost use Rattle.code.specs.View.{tree_of_code, trees_of_codes, methods_of_codes};
-ghost use Rattle.code.specs.Sameness.{pattern_alike, patterns_alike, alike, all_alike, methods_alike, method_alike};
+ghost use Rattle.code.specs.Sameness.{pattern_alike, patterns_alike, primitive_alike, alike, all_alike, methods_alike, method_alike};
 
 use crate::code::{Code, MethodCode};
-use kernele::tree::Pattern;
+use kernele::tree::{Pattern, Primitive};
 use std::sync::Arc;
 
 /// Whether patterns bind the same.
@@ -30,6 +30,17 @@ fn same_patterns(ps: &Arc<Vec<Pattern>>, qs: &Arc<Vec<Pattern>>) -> bool
         }
     }
     true
+}
+
+fn same_primitive(p: &Primitive, q: &Primitive) -> bool
+    ensures { result ≡ primitive_alike p.now q.now }
+{
+    match (p, q) {
+        (Primitive::Throw, Primitive::Throw)
+        | (Primitive::BreakRef, Primitive::BreakRef)
+        | (Primitive::StateRef, Primitive::StateRef) => true,
+        _ => false,
+    }
 }
 
 #[cycle(sameness)]
@@ -62,7 +73,7 @@ fn same_code(a: &Code, b: &Code) -> bool
         (Code::Try(xs, p, us), Code::Try(ys, q, vs)) => {
             same_codes(xs, ys) && same_pattern(p, q) && same_codes(us, vs)
         }
-        (Code::Throw(e), Code::Throw(f)) => same_code(e, f),
+        (Code::Primitive(p, e), Code::Primitive(q, f)) => same_primitive(p, q) && same_code(e, f),
         (Code::Object(p, _, ms, _), Code::Object(q, _, ns, _)) => {
             same_pattern(p, q) && same_methods(ms, ns)
         }
@@ -75,8 +86,6 @@ fn same_code(a: &Code, b: &Code) -> bool
             same_code(e, f) && same_codes(xs, ys) && same_pattern(p, q) && same_codes(us, vs)
         }
         (Code::NewPromise, Code::NewPromise) => true,
-        (Code::BreakRef(e), Code::BreakRef(f)) => same_code(e, f),
-        (Code::StateRef(e), Code::StateRef(f)) => same_code(e, f),
         _ => false,
     }
 }

@@ -1,7 +1,7 @@
 -- What is resolved of a construct, from what is resolved of its parts.
 use Rattle.std.proofs.Common.{◌≡◌, ℕ, Option, ◌+◌, ◌<◌, ◌≤◌, Bool, false, List, [], ◌∷◌, ◌++◌, length, ap, sym, subst, refl, ◌∙◌, drop, get_or, append_assoc, append-nil}
 use Rattle.std.proofs.Math.Path.{transport}
-use Rattle.kernele.specs.Tree.{Name, Tree, noun, define, variable, assign, call, list_tree, same_tree, define_list, hide, if_tree, while_tree, for_tree, try_tree, throw_tree, object_tree, escape_tree, send, when_tree, when_catch_tree, break_ref, state_ref, Trees, none, and_then, Methods, and_method}
+use Rattle.kernele.specs.Tree.{Name, Tree, noun, define, variable, assign, call, list_tree, same_tree, define_list, hide, if_tree, while_tree, for_tree, try_tree, primitive, object_tree, escape_tree, send, when_tree, when_catch_tree, Trees, none, and_then, Methods, and_method}
 use Rattle.kernele.specs.View.{tree_of, trees_of, methods_of}
 use Rattle.kernele_scopes.specs.Scope.{own_names, own_names_in, name_of, names_of_all, variable_name}
 use Rattle.kernele_scopes.specs.Free.{captures, when_captures}
@@ -9,6 +9,7 @@ use Rattle.kernele.specs.declared.tree.Expr.{Expr}
 use Rattle.kernele.specs.declared.tree.Method.{Method}
 use Rattle.kernele.specs.declared.tree.Pattern.{Pattern}
 use Rattle.kernele.specs.declared.tree.Pattern.TheVariants as pattern
+use Rattle.kernele.specs.declared.tree.Primitive.{Primitive}
 use Rattle.kernele_scopes.specs.declared.naming.TopName.{TopName}
 use Rattle.kernele.proofs.Walks.{trees_from, no_trees_from, methods_from, no_methods_from}
 use Rattle.code.specs.View.{tree_of_code, methods_of_codes}
@@ -73,14 +74,8 @@ pub resolved_def_list : {own : Bool} {f g h : Frame} {t : Tree} (ps qs : Arc (Ve
     → h ≡ behind own (only_names (names_of_all ps.value.items)) g → Resolves own f (define_list ps.value.items t) (code.DefList qs r) h
 resolved_def_list ps qs r bound a e = record { tree = λ i. define_list (bound i) (a.tree i); fitting = a.fitting; grown = grown_both (names_of_all ps.value.items) a e }
 
-pub resolved_throw : {own : Bool} {f g : Frame} {t : Tree} {r : Arc Code Global} → Resolves own f t r.value g → Resolves own f (throw_tree t) (code.Throw r) g
-resolved_throw a = record { tree = ap throw_tree a.tree; fitting = a.fitting; grown = a.grown }
-
-pub resolved_break_ref : {own : Bool} {f g : Frame} {t : Tree} {r : Arc Code Global} → Resolves own f t r.value g → Resolves own f (break_ref t) (code.BreakRef r) g
-resolved_break_ref a = record { tree = ap break_ref a.tree; fitting = a.fitting; grown = a.grown }
-
-pub resolved_state_ref : {own : Bool} {f g : Frame} {t : Tree} {r : Arc Code Global} → Resolves own f t r.value g → Resolves own f (state_ref t) (code.StateRef r) g
-resolved_state_ref a = record { tree = ap state_ref a.tree; fitting = a.fitting; grown = a.grown }
+pub resolved_primitive : {own : Bool} {f g : Frame} {t : Tree} {r : Arc Code Global} (q : Primitive) → Resolves own f t r.value g → Resolves own f (primitive q t) (code.Primitive q r) g
+resolved_primitive q a = record { tree = ap (primitive q) a.tree; fitting = a.fitting; grown = a.grown }
 
 pub resolved_same : {own : Bool} {f g h : Frame} {t u : Tree} {l r : Arc Code Global} → Resolves own f t l.value g → Resolves own g u r.value h → Resolves own f (same_tree t u) (code.Same l r) h
 resolved_same {own = own} {u = u} {r = r} a b = record {

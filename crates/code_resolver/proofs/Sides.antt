@@ -9,21 +9,20 @@ use Rattle.kernele.specs.View.{tree_of}
 use Rattle.kernele.specs.declared.tree.Expr as tree
 use Rattle.kernele.specs.declared.tree.Expr.{Expr}
 use Rattle.kernele.specs.declared.tree.Pattern.{Pattern}
+use Rattle.kernele.specs.declared.tree.Primitive.{Primitive}
 use Rattle.code.specs.Frames.{Frame}
 use Rattle.code.specs.declared.code.Code.{Code}
 use Rattle.code_resolver.specs.Resolves.{Resolves, right_side}
 
 -- the right side of what has one
 pub side_of : {e : Expr} (right : Arc Expr Global)
-    → ((p : Pattern) × (e ≡ tree.Def p right)) ⊎ (((x : Name) × (e ≡ tree.Var x right)) ⊎ (((x : Name) × (e ≡ tree.Assign x right)) ⊎ (((ps : Arc (Vec Pattern Global) Global) × (e ≡ tree.DefList ps right)) ⊎ ((e ≡ tree.Throw right) ⊎ ((e ≡ tree.BreakRef right) ⊎ (e ≡ tree.StateRef right))))))
+    → ((p : Pattern) × (e ≡ tree.Def p right)) ⊎ (((x : Name) × (e ≡ tree.Var x right)) ⊎ (((x : Name) × (e ≡ tree.Assign x right)) ⊎ (((ps : Arc (Vec Pattern Global) Global) × (e ≡ tree.DefList ps right)) ⊎ ((q : Primitive) × (e ≡ tree.Primitive q right)))))
     → right_side e ≡ Some right.value
 side_of right (inl is) = ap right_side is.1
 side_of right (inr (inl is)) = ap right_side is.1
 side_of right (inr (inr (inl is))) = ap right_side is.1
 side_of right (inr (inr (inr (inl is)))) = ap right_side is.1
-side_of right (inr (inr (inr (inr (inl is))))) = ap right_side is
-side_of right (inr (inr (inr (inr (inr (inl is)))))) = ap right_side is
-side_of right (inr (inr (inr (inr (inr (inr is)))))) = ap right_side is
+side_of right (inr (inr (inr (inr is)))) = ap right_side is.1
 
 -- what is resolved of a right side is resolved of the same one, known otherwise
 pub same_side : {own : Bool} {f g : Frame} {o : Option Expr} {q r : Expr} {c : Code} → o ≡ Some q → o ≡ Some r → Resolves own f (tree_of r) c g → Resolves own f (tree_of q) c g

@@ -1,5 +1,5 @@
 // The names of a frame under way, the oldest first.
-ghost use Rattle.std.specs.Prelude.{◌≡◌, [], ◌∷◌, ◌++◌, OnOk, IfOk};
+ghost use Rattle.std.specs.Prelude.{◌≡◌, [], ◌∷◌, OnOk, IfOk};
 ghost use Rattle.kernele_scopes.specs.Scope.{name_of, names_of_all};
 ghost use Rattle.code.specs.Frames.{all_placed, behind, captured_names_of, only_names, place_in};
 

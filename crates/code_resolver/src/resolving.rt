@@ -58,9 +58,7 @@ fn resolve_expr(
         | Expr::Var(_, right)
         | Expr::Assign(_, right)
         | Expr::DefList(_, right)
-        | Expr::Throw(right)
-        | Expr::BreakRef(right)
-        | Expr::StateRef(right) => resolve_right(alloc, e, right, own_scope, frame),
+        | Expr::Primitive(_, right) => resolve_right(alloc, e, right, own_scope, frame),
         Expr::Call(receiver, verb, args) => {
             resolve_call(alloc, receiver, verb, args, own_scope, frame)
         }
@@ -199,9 +197,7 @@ fn with_right(
             add_all_bound(patterns, own_scope, frame)?;
             Ok(Code::DefList(Arc::try_clone(patterns)?, right))
         }
-        Expr::Throw(_) => Ok(Code::Throw(right)),
-        Expr::BreakRef(_) => Ok(Code::BreakRef(right)),
-        Expr::StateRef(_) => Ok(Code::StateRef(right)),
+        Expr::Primitive(primitive, _) => Ok(Code::Primitive(*primitive, right)),
         _ => unreachable!(),
     }
 }

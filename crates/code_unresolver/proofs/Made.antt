@@ -1,5 +1,5 @@
 -- What trees stand for that are made of parts.
-use Rattle.std.proofs.Common.{◌≡◌, ℕ, List, Result, IfOk, ◌∙◌, ap}
+use Rattle.std.proofs.Common.{◌≡◌, ℕ, List, Result, IfOk, ◌∙◌}
 use Rattle.std.proofs.lemmas.Result.{IfOk-weaker}
 use Rattle.kernele.specs.Tree.{Tree, Trees, Methods, call, if_tree, while_tree, for_tree, try_tree, object_tree, escape_tree, send, when_tree, when_catch_tree}
 use Rattle.kernele.specs.View.{tree_of, trees_of, methods_of}

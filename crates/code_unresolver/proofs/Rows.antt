@@ -5,7 +5,7 @@ use Rattle.code.specs.View.{tree_of_code, trees_of_codes, methods_of_codes}
 use Rattle.code.specs.declared.code.Code.{Code}
 use Rattle.code.specs.declared.code.MethodCode.{MethodCode}
 use Rattle.kernele_scopes.specs.Scope.{nodes, nodes_in, nodes_of}
-use Rattle.kernele.specs.Tree.{Tree, Trees, none, and_then, Methods, no_methods, and_method}
+use Rattle.kernele.specs.Tree.{Trees, none, and_then, Methods, no_methods, and_method}
 use Rattle.kernele.specs.View.{tree_of, trees_of, methods_of}
 use Rattle.kernele.specs.declared.tree.Expr.{Expr}
 use Rattle.kernele.specs.declared.tree.Method.{Method}

@@ -42,7 +42,7 @@ fn whole(alloc: Global, code: &Code) -> Result<Expr, AllocError>
         Code::While(condition, body) => repeated(alloc, condition, body),
         Code::For(pattern, list, body) => walked(alloc, pattern, list, body),
         Code::Try(body, pattern, handler) => tried(alloc, body, pattern, handler),
-        Code::Throw(problem) => Ok(Expr::Throw(part(alloc, problem)?)),
+        Code::Primitive(primitive, value) => Ok(Expr::Primitive(*primitive, part(alloc, value)?)),
         Code::Object(pattern, _, methods, _) => made(alloc, pattern, methods),
         Code::Escape(name, body) => escaped(alloc, name, body),
         Code::When(value, _, body) => awaited(alloc, value, body),
@@ -50,8 +50,6 @@ fn whole(alloc: Global, code: &Code) -> Result<Expr, AllocError>
             caught(alloc, value, body, pattern, handler)
         }
         Code::NewPromise => Ok(Expr::NewPromise),
-        Code::BreakRef(problem) => Ok(Expr::BreakRef(part(alloc, problem)?)),
-        Code::StateRef(value) => Ok(Expr::StateRef(part(alloc, value)?)),
     }
 }
 

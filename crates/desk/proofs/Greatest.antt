@@ -1,5 +1,5 @@
 -- The greatest number of items, as far as a loop has come.
-use Rattle.std.proofs.Common.{◌≡◌, ℕ, ◌+◌, ◌<◌, ◌≤◌, All, List, length, map, get_or, arith, ap, below_more}
+use Rattle.std.proofs.Common.{ℕ, ◌+◌, ◌<◌, ◌≤◌, All, List, length, map, get_or, arith, ap, below_more}
 use Rattle.std.proofs.lemmas.List.{length-map, get_or-map, get_or_default}
 
 -- so far no item has a greater one

@@ -1,5 +1,5 @@
 // The desk that tickets are lent from and come back to.
-ghost use Rattle.std.specs.Prelude.{◌≡◌, ℕ, ◌≤◌, All, ◌++◌, [], ◌∷◌, not, OnOk, OnErr};
+ghost use Rattle.std.specs.Prelude.{◌≡◌, ℕ, ◌≤◌, All, ◌++◌, [], ◌∷◌, OnOk, OnErr};
 ghost use Rattle.std.specs.Option.{option_map};
 ghost use Rattle.desk.specs.Desks.{is_out, has_vat, lent_at, without};
 ghost use Rattle.desk.specs.DeskView.{lent_of};

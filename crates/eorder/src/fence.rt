@@ -1,5 +1,5 @@
 // Fences.
-ghost use Rattle.std.specs.Prelude.{◌≡◌, ◌≤◌, ℕ, [], ◌∷◌, ◌↔◌, length, insert, IsTrue, IsOk, IfOk, OnOk, MatchResult};
+ghost use Rattle.std.specs.Prelude.{◌≡◌, ◌≤◌, [], ◌∷◌, ◌↔◌, length, insert, IsTrue, IsOk, IfOk, OnOk, MatchResult};
 ghost use Rattle.eorder.specs.Fences.{member, Rises, with_name, joined, cell_of};
 
 use ids::names::MsgId;

@@ -1,5 +1,5 @@
 // Why nothing was read.
-ghost use Rattle.std.specs.Prelude.{◌≡◌, ◌++◌, Some, codes};
+ghost use Rattle.std.specs.Prelude.{◌≡◌, ◌++◌, Some};
 ghost use Rattle.std.specs.Fmt.{WritesOnOk, decimal};
 ghost use Rattle.ereader.specs.declared.fault.ReadFault.TheVariants.{Memory};
 ghost use Rattle.ereader.specs.Shown.{shown};

@@ -6,7 +6,8 @@ use Rattle.etoken.specs.declared.token.Reserved.TheVariants as word
 use Rattle.etoken.specs.declared.token.Sign as signs
 use Rattle.etoken.specs.declared.token.Sign.TheVariants as sign
 use Rattle.kernele.specs.declared.tree.Pattern.{Pattern}
-use Rattle.kernele.specs.Tree.{Name, Tree, null_tree, define, define_list, variable, assign, call, list_tree, hide, if_tree, while_tree, for_tree, try_tree, throw_tree, object_tree, escape_tree, send, when_tree, when_catch_tree, break_ref, state_ref, Trees, none, and_then, Methods}
+use Rattle.kernele.specs.Tree.{Name, Tree, null_tree, define, define_list, variable, assign, call, list_tree, hide, if_tree, while_tree, for_tree, try_tree, primitive, object_tree, escape_tree, send, when_tree, when_catch_tree, Trees, none, and_then, Methods}
+use Rattle.kernele.specs.declared.tree.Primitive.TheVariants as primitives
 use Rattle.ereader_signs.specs.declared.operator.CallSign.TheVariants as link
 use Rattle.etoken.specs.declared.breaks.Bracket.{Bracket}
 use Rattle.etoken.specs.declared.breaks.Bracket.TheVariants as bracket
@@ -246,7 +247,7 @@ module _ (m : ℕ) (within : Within)
       ∙ ap (λ o. o >>= λ p. braced_at within p.1 >>= λ h. Some (try_tree ts p.0 h.0, h.1)) (complete_pat b c p q)
       ∙ ap (λ o. o >>= λ h. Some (try_tree ts p h.0, h.1)) (complete_braced c r us (omega (arith, h, less_braced x, less_pat q)) y)
   complete_primary _ _ _ h (primary_throw {a = a} {r = r} {t = t} x) k =
-      ap (λ o. o >>= λ e. Some (throw_tree e.0, e.1)) (complete_condition a r t (omega (arith, h)) x)
+      ap (λ o. o >>= λ e. Some (primitive primitives.Throw e.0, e.1)) (complete_condition a r t (omega (arith, h)) x)
   complete_primary _ _ _ h (primary_escape {a = a} {r = r} {x = x} {ts = ts} y) k =
       ap (λ o. o >>= λ b. Some (escape_tree x b.0, b.1)) (complete_braced a r ts (omega (arith, h)) y)
   complete_primary _ _ _ h (primary_object {a = a} {b = b} {r = r} {p = p} {ms = ms} q x) k =
@@ -267,9 +268,9 @@ module _ (m : ℕ) (within : Within)
       ∙ ap (λ o. o >>= λ h. Some (when_catch_tree t ts p h.0, h.1)) (complete_braced d r us (omega (arith, h, less_condition x, less_braced y, less_pat q)) z)
   complete_primary _ _ _ h primary_promise k = refl
   complete_primary _ _ _ h (primary_broken {a = a} {r = r} {t = t} x) k =
-      ap (λ o. o >>= λ e. Some (break_ref e.0, e.1)) (complete_condition a r t (omega (arith, h)) x)
+      ap (λ o. o >>= λ e. Some (primitive primitives.BreakRef e.0, e.1)) (complete_condition a r t (omega (arith, h)) x)
   complete_primary _ _ _ h (primary_state {a = a} {r = r} {t = t} x) k =
-      ap (λ o. o >>= λ e. Some (state_ref e.0, e.1)) (complete_condition a r t (omega (arith, h)) x)
+      ap (λ o. o >>= λ e. Some (primitive primitives.StateRef e.0, e.1)) (complete_condition a r t (omega (arith, h)) x)
 
   turns_postfix : (a r : List Token) (t : Tree) → length a ≤ suc m → Postfix a t r → Below 7 r → Turns (postfix_next within) (postfix_at within a) t r
   turns_postfix _ _ _ h (postfix_primary {a = a} {r = r} {t = t} p) k = turns_begin (postfix_next within) (λ u. u) (primary_at within a) (complete_primary a r t h p k)

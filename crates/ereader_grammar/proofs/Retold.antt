@@ -7,9 +7,10 @@ use Rattle.etoken.specs.declared.token.Sign.TheVariants as sign
 use Rattle.etoken.specs.Cutting.{blanks_none}
 use Rattle.kernele.specs.declared.tree.Pattern.{Pattern}
 use Rattle.kernele.specs.declared.tree.Pattern.TheVariants as pattern
-use Rattle.kernele.specs.Tree.{Name, Tree, null_tree, bool_tree, int_tree, text_tree, noun, define, variable, assign, call, list_tree, same_tree, define_list, hide, if_tree, while_tree, for_tree, try_tree, throw_tree, object_tree, escape_tree, send, when_tree, when_catch_tree, new_promise, break_ref, state_ref, Trees, none, and_then, Methods, no_methods, and_method}
+use Rattle.kernele.specs.Tree.{Name, Tree, null_tree, bool_tree, int_tree, text_tree, noun, define, variable, assign, call, list_tree, same_tree, define_list, hide, if_tree, while_tree, for_tree, try_tree, primitive, object_tree, escape_tree, send, when_tree, when_catch_tree, new_promise, Trees, none, and_then, Methods, no_methods, and_method}
 use Rattle.kernele.specs.Spelling as text
 use Rattle.kernele.specs.Spelling.{spelled, spelled_parts, spelled_items, spelled_methods, spelling, needs_brackets, as_part, as_receiver, is_bare_receiver, bound_name}
+use Rattle.kernele.specs.declared.tree.Primitive.TheVariants as primitives
 use Rattle.ereader_grammar.specs.Written.{Before, led_by, between, bracketed, bound, bound_in, in_braces, taking, written, written_parts, written_items, written_methods, program_tokens}
 use Rattle.ereader_grammar.specs.Spelled.{CutInto, SpelledBy, BindsName, BindNames, IsName, IsSpellable, AreSpellable, AreSpellableMethods}
 use Rattle.ereader_grammar.proofs.Plainly.{InLine, in_line_end, cut_in_line, spaced, open_round_at, close_round_at, open_square_at, close_square_at, open_curly_at, close_curly_at, comma_at, semicolon_at, dot_at, becomes_at, equal_at, send_to_at, arrow_at, Ends, reserved_at, underscore_at, name_at, int_at, text_at}
@@ -38,15 +39,13 @@ as_receiver-is (if_tree c first second) s = refl
 as_receiver-is (while_tree c body) s = refl
 as_receiver-is (for_tree p e body) s = refl
 as_receiver-is (try_tree body p handler) s = refl
-as_receiver-is (throw_tree e) s = refl
+as_receiver-is (primitive q e) s = refl
 as_receiver-is (object_tree p ms) s = refl
 as_receiver-is (escape_tree x body) s = refl
 as_receiver-is (send r verb args) s = refl
 as_receiver-is (when_tree e body) s = refl
 as_receiver-is (when_catch_tree e body p handler) s = refl
 as_receiver-is new_promise s = refl
-as_receiver-is (break_ref e) s = refl
-as_receiver-is (state_ref e) s = refl
 
 -- what stands, in brackets where they are wanted
 in_brackets : (wanted : Bool) (bs : List ℕ) (w : Before) → Stands bs w → Stands (text.bracketed wanted bs) (bracketed wanted w)
@@ -284,8 +283,8 @@ mutual
       subst (λ l. InLine l (written (try_tree body p handler) us)) (sym (try-bytes (text.in_braces (spelled_items body)) (bound_name p) (text.in_braces (spelled_items handler)) r))
       (reserved_at (codes "try") word.Try refl refl refl refl (spaced (block_stands body (stand_items body h.0) _ _ refl (spaced (reserved_at (codes "catch") word.Catch refl refl refl refl (spaced
       (bound_at p h.1 refl (spaced (block_stands handler (stand_items handler h.2) r us ends rest)))))))))
-  stands (throw_tree e) h = λ r us ends rest.
-      subst (λ l. InLine l (written (throw_tree e) us)) (sym (throw-bytes (as_part e (spelled e)) r))
+  stands (primitive primitives.Throw e) h = λ r us ends rest.
+      subst (λ l. InLine l (written (primitive primitives.Throw e) us)) (sym (throw-bytes (as_part e (spelled e)) r))
       (reserved_at (codes "throw") word.Throw refl refl refl refl (open_round_at (part e (stands e h) _ _ refl (close_round_at rest))))
   stands (object_tree p ms) h = λ r us ends rest.
       subst (λ l. InLine l (written (object_tree p ms) us)) (sym (object-bytes (bound_name p) (text.methods_in_braces (spelled_methods ms)) r))
@@ -305,11 +304,11 @@ mutual
       (block_stands body (stand_items body h.1) _ _ refl (spaced (reserved_at (codes "catch") word.Catch refl refl refl refl (spaced
       (bound_at p h.2 refl (spaced (block_stands handler (stand_items handler h.3) r us ends rest)))))))))))))))
   stands new_promise h = λ r us ends rest. reserved_at (codes "Ref") word.Ref refl refl refl refl (dot_at (name_at (codes "promise") refl refl (open_round_at (close_round_at rest))))
-  stands (break_ref e) h = λ r us ends rest.
-      subst (λ l. InLine l (written (break_ref e) us)) (sym (broken-bytes (as_part e (spelled e)) r))
+  stands (primitive primitives.BreakRef e) h = λ r us ends rest.
+      subst (λ l. InLine l (written (primitive primitives.BreakRef e) us)) (sym (broken-bytes (as_part e (spelled e)) r))
       (reserved_at (codes "Ref") word.Ref refl refl refl refl (dot_at (name_at (codes "broken") refl refl (open_round_at (part e (stands e h) _ _ refl (close_round_at rest))))))
-  stands (state_ref e) h = λ r us ends rest.
-      subst (λ l. InLine l (written (state_ref e) us)) (sym (state-bytes (as_part e (spelled e)) r))
+  stands (primitive primitives.StateRef e) h = λ r us ends rest.
+      subst (λ l. InLine l (written (primitive primitives.StateRef e) us)) (sym (state-bytes (as_part e (spelled e)) r))
       (reserved_at (codes "Ref") word.Ref refl refl refl refl (dot_at (name_at (codes "state") refl refl (open_round_at (part e (stands e h) _ _ refl (close_round_at rest))))))
 
   -- so do all the methods

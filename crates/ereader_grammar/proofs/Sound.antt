@@ -10,7 +10,8 @@ use Rattle.etoken.specs.declared.token.Reserved.TheVariants as word
 use Rattle.etoken.specs.declared.token.Sign as signs
 use Rattle.etoken.specs.declared.token.Sign.TheVariants as sign
 use Rattle.kernele.specs.declared.tree.Pattern.{Pattern}
-use Rattle.kernele.specs.Tree.{Name, Tree, null_tree, define, define_list, variable, assign, call, list_tree, hide, if_tree, while_tree, for_tree, try_tree, throw_tree, object_tree, escape_tree, send, when_tree, when_catch_tree, new_promise, break_ref, state_ref, Trees, none, and_then, Methods, no_methods}
+use Rattle.kernele.specs.Tree.{Name, Tree, null_tree, define, define_list, variable, assign, call, list_tree, hide, if_tree, while_tree, for_tree, try_tree, primitive, object_tree, escape_tree, send, when_tree, when_catch_tree, new_promise, Trees, none, and_then, Methods, no_methods}
+use Rattle.kernele.specs.declared.tree.Primitive.TheVariants as primitives
 use Rattle.ereader_signs.specs.declared.operator.Operator.{Operator}
 use Rattle.ereader_signs.specs.declared.operator.CallSign.{CallSign}
 use Rattle.ereader_signs.specs.declared.operator.CallSign.TheVariants as link
@@ -530,10 +531,10 @@ module _ (within : Within)
   sound_ref_form : (k : RefWord) (a : List Token) (x : Tree × List Token) → ref_form_at within k a ≡ Some x → Primary (token.Word word.Ref ∷ token.Sign sign.Dot ∷ token.Name (ref_name k) ∷ a) x.0 x.1
   sound_ref_form reference.Promise a x e = sound_promise a x e
   sound_ref_form reference.Broken a x e =
-      let g = bind_some (condition_at within a) (λ e. Some (break_ref e.0, e.1)) e in
+      let g = bind_some (condition_at within a) (λ e. Some (primitive primitives.BreakRef e.0, e.1)) e in
       subst (λ y. Primary (token.Word word.Ref ∷ token.Sign sign.Dot ∷ token.Name (codes "broken") ∷ a) y.0 y.1) (some_same g.2) (primary_broken (sound_condition a g.0 g.1))
   sound_ref_form reference.State a x e =
-      let g = bind_some (condition_at within a) (λ e. Some (state_ref e.0, e.1)) e in
+      let g = bind_some (condition_at within a) (λ e. Some (primitive primitives.StateRef e.0, e.1)) e in
       subst (λ y. Primary (token.Word word.Ref ∷ token.Sign sign.Dot ∷ token.Name (codes "state") ∷ a) y.0 y.1) (some_same g.2) (primary_state (sound_condition a g.0 g.1))
 
   sound_ref : (a : List Token) (x : Tree × List Token) → ref_at within a ≡ Some x → Primary (token.Word word.Ref ∷ a) x.0 x.1
@@ -543,7 +544,7 @@ module _ (within : Within)
 
   sound_throw : (a : List Token) (x : Tree × List Token) → throw_at within a ≡ Some x → Primary (token.Word word.Throw ∷ a) x.0 x.1
   sound_throw a x e =
-      let g = bind_some (condition_at within a) (λ e. Some (throw_tree e.0, e.1)) e in
+      let g = bind_some (condition_at within a) (λ e. Some (primitive primitives.Throw e.0, e.1)) e in
       subst (λ y. Primary (token.Word word.Throw ∷ a) y.0 y.1) (some_same g.2) (primary_throw (sound_condition a g.0 g.1))
 
   sound_escape : (a : List Token) (x : Tree × List Token) → escape_at within a ≡ Some x → Primary (token.Word word.Escape ∷ a) x.0 x.1

@@ -5,8 +5,9 @@ use Rattle.etoken.specs.declared.token.Token.TheVariants as token
 use Rattle.etoken.specs.declared.token.Sign.TheVariants as sign
 use Rattle.kernele.specs.declared.tree.Pattern.{Pattern}
 use Rattle.kernele.specs.declared.tree.Pattern.TheVariants as pattern
-use Rattle.kernele.specs.Tree.{Name, Tree, null_tree, bool_tree, int_tree, text_tree, noun, define, variable, assign, call, list_tree, same_tree, define_list, hide, if_tree, while_tree, for_tree, try_tree, throw_tree, object_tree, escape_tree, send, when_tree, when_catch_tree, new_promise, break_ref, state_ref, Trees, none, and_then, Methods, no_methods, and_method}
+use Rattle.kernele.specs.Tree.{Name, Tree, null_tree, bool_tree, int_tree, text_tree, noun, define, variable, assign, call, list_tree, same_tree, define_list, hide, if_tree, while_tree, for_tree, try_tree, primitive, object_tree, escape_tree, send, when_tree, when_catch_tree, new_promise, Trees, none, and_then, Methods, no_methods, and_method}
 use Rattle.kernele.specs.Spelling.{needs_brackets, is_bare_receiver}
+use Rattle.kernele.specs.declared.tree.Primitive.TheVariants as primitives
 use Rattle.ereader_forms.specs.Forms.{snoc}
 use Rattle.ereader_nodes.specs.Nodes.{method_tree}
 use Rattle.ereader_grammar.specs.Grammar.{put_method, Pat, pat_name, pat_ignore, Pats, pats_one, pats_and, PatList, pat_list_none, pat_list_some, semicolons_none, Expr, expr_define, expr_define_list, expr_variable, expr_assign, expr_disjunction, Disjunction, disjunction_conjunction, conjunction_comparison, Sum, comparison_sum, comparison_two, sum_product, product_unary, unary_postfix, Postfix, postfix_primary, postfix_method, postfix_send, Primary, primary_int, primary_text, primary_true, primary_false, primary_null, primary_name, primary_list, primary_group, primary_hide, primary_if, primary_while, primary_for, primary_try, primary_throw, primary_escape, primary_object, primary_when, primary_when_catch, primary_promise, primary_broken, primary_state, method_plain, MethodList, methods_none, methods_and, conditional_else, condition, Braced, braced, Args, args_none, args_some, Items, items_one, items_and, Sequence, sequence_one, sequence_and, Block, block_empty, block_items, Program}
@@ -123,15 +124,13 @@ receives (if_tree c first second) h r = grouped (h (token.Sign sign.CloseRound �
 receives (while_tree c body) h r = grouped (h (token.Sign sign.CloseRound ∷ r)).0
 receives (for_tree p e body) h r = grouped (h (token.Sign sign.CloseRound ∷ r)).0
 receives (try_tree body p handler) h r = grouped (h (token.Sign sign.CloseRound ∷ r)).0
-receives (throw_tree e) h r = grouped (h (token.Sign sign.CloseRound ∷ r)).0
+receives (primitive q e) h r = grouped (h (token.Sign sign.CloseRound ∷ r)).0
 receives (object_tree p ms) h r = grouped (h (token.Sign sign.CloseRound ∷ r)).0
 receives (escape_tree x body) h r = grouped (h (token.Sign sign.CloseRound ∷ r)).0
 receives (send t verb ts) h r = (h r).1
 receives (when_tree e body) h r = grouped (h (token.Sign sign.CloseRound ∷ r)).0
 receives (when_catch_tree e body p handler) h r = grouped (h (token.Sign sign.CloseRound ∷ r)).0
 receives new_promise h r = grouped (h (token.Sign sign.CloseRound ∷ r)).0
-receives (break_ref e) h r = grouped (h (token.Sign sign.CloseRound ∷ r)).0
-receives (state_ref e) h r = grouped (h (token.Sign sign.CloseRound ∷ r)).0
 
 -- a block in its braces
 braces : (ts : Trees) → ReadsItems ts → (r : List Token) → Braced (in_braces (written_items ts) r) ts r
@@ -160,7 +159,7 @@ mutual
   reads (while_tree c body) = λ r. both (postfix_primary (primary_while (condition (disjunction (reads c _).1)) (braces body (reads_items body) r)))
   reads (for_tree p e body) = λ r. both (postfix_primary (primary_for (bound_is p _) (disjunction (reads e _).1) (braces body (reads_items body) r)))
   reads (try_tree body p handler) = λ r. both (postfix_primary (primary_try (braces body (reads_items body) _) (bound_is p _) (braces handler (reads_items handler) r)))
-  reads (throw_tree e) = λ r. both (postfix_primary (primary_throw (condition (disjunction (reads e _).1))))
+  reads (primitive primitives.Throw e) = λ r. both (postfix_primary (primary_throw (condition (disjunction (reads e _).1))))
   reads (object_tree p ms) = λ r. both (postfix_primary (primary_object (bound_is p _) (members ms (reads_methods ms) (token.Sign sign.CloseCurly ∷ r))))
   reads (escape_tree x body) = λ r. both (postfix_primary (primary_escape (braces body (reads_items body) r)))
   reads (send t verb ts) = λ r. both (postfix_send (receives t (reads t) _) ((reads_all ts).1 (token.Sign sign.CloseRound ∷ r)))
@@ -168,8 +167,8 @@ mutual
   reads (when_catch_tree e body p handler) = λ r.
       both (postfix_primary (primary_when_catch (condition (disjunction (reads e _).1)) (braces body (reads_items body) _) (bound_is p _) (braces handler (reads_items handler) r)))
   reads new_promise = λ r. both (postfix_primary primary_promise)
-  reads (break_ref e) = λ r. both (postfix_primary (primary_broken (condition (disjunction (reads e _).1))))
-  reads (state_ref e) = λ r. both (postfix_primary (primary_state (condition (disjunction (reads e _).1))))
+  reads (primitive primitives.BreakRef e) = λ r. both (postfix_primary (primary_broken (condition (disjunction (reads e _).1))))
+  reads (primitive primitives.StateRef e) = λ r. both (postfix_primary (primary_state (condition (disjunction (reads e _).1))))
 
   reads_methods : (ms : Methods) → ReadsMethods ms
   reads_methods no_methods = λ a r ns s. s

@@ -7,7 +7,8 @@ use Rattle.etoken.specs.declared.token.Sign as signs
 use Rattle.etoken.specs.declared.token.Sign.TheVariants as sign
 use Rattle.kernele.specs.declared.tree.Pattern.{Pattern}
 use Rattle.kernele.specs.declared.tree.Pattern.TheVariants as pattern
-use Rattle.kernele.specs.Tree.{Name, Tree, null_tree, bool_tree, int_tree, text_tree, noun, define, variable, assign, call, list_tree, define_list, hide, if_tree, while_tree, for_tree, try_tree, throw_tree, object_tree, escape_tree, send, when_tree, when_catch_tree, new_promise, break_ref, state_ref, Trees, none, and_then, Methods, no_methods, and_method}
+use Rattle.kernele.specs.Tree.{Name, Tree, null_tree, bool_tree, int_tree, text_tree, noun, define, variable, assign, call, list_tree, define_list, hide, if_tree, while_tree, for_tree, try_tree, primitive, object_tree, escape_tree, send, when_tree, when_catch_tree, new_promise, Trees, none, and_then, Methods, no_methods, and_method}
+use Rattle.kernele.specs.declared.tree.Primitive.TheVariants as primitives
 use Rattle.ereader_signs.specs.declared.operator.Operator.{Operator}
 use Rattle.ereader_signs.specs.declared.operator.Prefix.{Prefix}
 use Rattle.ereader_signs.specs.Signs.{product_operator, sum_operator, comparison_operator, and_operator, or_operator, prefix_operator}
@@ -166,7 +167,7 @@ mutual
     primary_try : {a b c r : List Token} {p : Pattern} {ts us : Trees}
         → Braced a ts (token.Word word.Catch ∷ b) → Pat b p c → Braced c us r → Primary (token.Word word.Try ∷ a) (try_tree ts p us) r
     primary_throw : {a r : List Token} {t : Tree}
-        → Condition a t r → Primary (token.Word word.Throw ∷ a) (throw_tree t) r
+        → Condition a t r → Primary (token.Word word.Throw ∷ a) (primitive primitives.Throw t) r
     primary_escape : {a r : List Token} {x : Name} {ts : Trees}
         → Braced a ts r → Primary (token.Word word.Escape ∷ token.Name x ∷ a) (escape_tree x ts) r
     primary_object : {a b r : List Token} {p : Pattern} {ms : Methods}
@@ -181,9 +182,9 @@ mutual
     primary_promise : {r : List Token}
         → Primary (token.Word word.Ref ∷ dot ∷ token.Name (codes "promise") ∷ open_round ∷ close_round ∷ r) new_promise r
     primary_broken : {a r : List Token} {t : Tree}
-        → Condition a t r → Primary (token.Word word.Ref ∷ dot ∷ token.Name (codes "broken") ∷ a) (break_ref t) r
+        → Condition a t r → Primary (token.Word word.Ref ∷ dot ∷ token.Name (codes "broken") ∷ a) (primitive primitives.BreakRef t) r
     primary_state : {a r : List Token} {t : Tree}
-        → Condition a t r → Primary (token.Word word.Ref ∷ dot ∷ token.Name (codes "state") ∷ a) (state_ref t) r
+        → Condition a t r → Primary (token.Word word.Ref ∷ dot ∷ token.Name (codes "state") ∷ a) (primitive primitives.StateRef t) r
 
   -- a method
   pub data Method : List Token → MethodTree → List Token → Type 0 where

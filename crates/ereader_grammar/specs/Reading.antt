@@ -8,7 +8,8 @@ use Rattle.etoken.specs.declared.token.Sign as signs
 use Rattle.etoken.specs.declared.token.Sign.TheVariants as sign
 use Rattle.kernele.specs.declared.tree.Pattern.{Pattern}
 use Rattle.kernele.specs.declared.tree.Pattern.TheVariants as pattern
-use Rattle.kernele.specs.Tree.{Name, Tree, null_tree, int_tree, text_tree, noun, call, list_tree, hide, if_tree, while_tree, for_tree, try_tree, throw_tree, object_tree, escape_tree, when_tree, when_catch_tree, new_promise, break_ref, state_ref, Trees, none, and_then, Methods, no_methods}
+use Rattle.kernele.specs.Tree.{Name, Tree, null_tree, int_tree, text_tree, noun, call, list_tree, hide, if_tree, while_tree, for_tree, try_tree, primitive, object_tree, escape_tree, when_tree, when_catch_tree, new_promise, Trees, none, and_then, Methods, no_methods}
+use Rattle.kernele.specs.declared.tree.Primitive.TheVariants as primitives
 use Rattle.ereader_signs.specs.declared.operator.Operator.{Operator}
 use Rattle.ereader_signs.specs.declared.operator.CallSign.{CallSign}
 use Rattle.etoken.specs.declared.breaks.Bracket.{Bracket}
@@ -419,8 +420,8 @@ promise_at a = cond (is_open bracket.Round (sign_in a)) (past (is_close bracket.
 -- what stands behind that name
 abbrev pub ref_form_at : Within → RefWord → List Token → Read Tree
 ref_form_at within reference.Promise a = promise_at a
-ref_form_at within reference.Broken a = condition_at within a >>= λ e. Some (break_ref e.0, e.1)
-ref_form_at within reference.State a = condition_at within a >>= λ e. Some (state_ref e.0, e.1)
+ref_form_at within reference.Broken a = condition_at within a >>= λ e. Some (primitive primitives.BreakRef e.0, e.1)
+ref_form_at within reference.State a = condition_at within a >>= λ e. Some (primitive primitives.StateRef e.0, e.1)
 
 -- what stands behind `Ref`
 abbrev pub ref_at : Within → List Token → Read Tree
@@ -428,7 +429,7 @@ ref_at within a = ref_word_at a >>= λ k. ref_form_at within k.0 k.1
 
 -- what stands behind `throw`
 abbrev pub throw_at : Within → List Token → Read Tree
-throw_at within a = condition_at within a >>= λ e. Some (throw_tree e.0, e.1)
+throw_at within a = condition_at within a >>= λ e. Some (primitive primitives.Throw e.0, e.1)
 
 -- what stands behind `escape`
 abbrev pub escape_at : Within → List Token → Read Tree

@@ -6,7 +6,7 @@ use Rattle.etoken.specs.Breaks.{with_breaks}
 use Rattle.etoken.specs.Names.{is_name}
 use Rattle.kernele.specs.declared.tree.Pattern.{Pattern}
 use Rattle.kernele.specs.declared.tree.Pattern.TheVariants as pattern
-use Rattle.kernele.specs.Tree.{Name, Tree, null_tree, bool_tree, int_tree, text_tree, noun, define, variable, assign, call, list_tree, same_tree, define_list, hide, if_tree, while_tree, for_tree, try_tree, throw_tree, object_tree, escape_tree, send, when_tree, when_catch_tree, new_promise, break_ref, state_ref, Trees, none, and_then, Methods, no_methods, and_method}
+use Rattle.kernele.specs.Tree.{Name, Tree, null_tree, bool_tree, int_tree, text_tree, noun, define, variable, assign, call, list_tree, same_tree, define_list, hide, if_tree, while_tree, for_tree, try_tree, primitive, object_tree, escape_tree, send, when_tree, when_catch_tree, new_promise, Trees, none, and_then, Methods, no_methods, and_method}
 use Rattle.ereader_grammar.specs.Grammar.{Program}
 use Rattle.ereader_grammar.specs.View.{plain}
 
@@ -57,15 +57,13 @@ abbrev mutual
   IsSpellable (while_tree c body) = IsSpellable c × AreSpellable body
   IsSpellable (for_tree p e body) = BindsName p × IsSpellable e × AreSpellable body
   IsSpellable (try_tree body p handler) = AreSpellable body × BindsName p × AreSpellable handler
-  IsSpellable (throw_tree e) = IsSpellable e
+  IsSpellable (primitive q e) = IsSpellable e
   IsSpellable (object_tree p ms) = BindsName p × AreSpellableMethods ms
   IsSpellable (escape_tree x body) = IsName x × AreSpellable body
   IsSpellable (send r verb args) = IsSpellable r × IsName verb × AreSpellable args
   IsSpellable (when_tree e body) = IsSpellable e × AreSpellable body
   IsSpellable (when_catch_tree e body p handler) = IsSpellable e × AreSpellable body × BindsName p × AreSpellable handler
   IsSpellable new_promise = Unit {0}
-  IsSpellable (break_ref e) = IsSpellable e
-  IsSpellable (state_ref e) = IsSpellable e
 
   pub AreSpellableMethods : Methods → Type 0
   AreSpellableMethods no_methods = Unit {0}

@@ -7,9 +7,10 @@ use Rattle.etoken.specs.declared.token.Reserved.TheVariants as word
 use Rattle.etoken.specs.declared.token.Sign.TheVariants as sign
 use Rattle.kernele.specs.declared.tree.Pattern.{Pattern}
 use Rattle.kernele.specs.declared.tree.Pattern.TheVariants as pattern
+use Rattle.kernele.specs.declared.tree.Primitive.TheVariants as primitives
 use Rattle.ereader_grammar.specs.Grammar.{dot, comma, semicolon, becomes, open_round, close_round, open_square, close_square, open_curly, close_curly, send_to, arrow, underscore}
 use Rattle.kernele.specs.Spelling.{needs_brackets, is_bare_receiver}
-use Rattle.kernele.specs.Tree.{Name, Tree, null_tree, bool_tree, int_tree, text_tree, noun, define, variable, assign, call, list_tree, same_tree, define_list, hide, if_tree, while_tree, for_tree, try_tree, throw_tree, object_tree, escape_tree, send, when_tree, when_catch_tree, new_promise, break_ref, state_ref, Trees, none, and_then, Methods, no_methods, and_method}
+use Rattle.kernele.specs.Tree.{Name, Tree, null_tree, bool_tree, int_tree, text_tree, noun, define, variable, assign, call, list_tree, same_tree, define_list, hide, if_tree, while_tree, for_tree, try_tree, primitive, object_tree, escape_tree, send, when_tree, when_catch_tree, new_promise, Trees, none, and_then, Methods, no_methods, and_method}
 
 -- tokens put before others
 abbrev pub Before : Type 0
@@ -86,7 +87,7 @@ abbrev mutual
       token.Word word.For ∷ bound p ∷ token.Word word.In ∷ bracketed (needs_brackets e) (written e) (in_braces (written_items body) r)
   written (try_tree body p handler) r =
       token.Word word.Try ∷ in_braces (written_items body) (token.Word word.Catch ∷ bound p ∷ in_braces (written_items handler) r)
-  written (throw_tree e) r =
+  written (primitive primitives.Throw e) r =
       token.Word word.Throw ∷ open_round ∷ bracketed (needs_brackets e) (written e) (close_round ∷ r)
   written (object_tree p ms) r = token.Word word.Def ∷ bound p ∷ open_curly ∷ written_methods ms (close_curly ∷ r)
   written (escape_tree x body) r = token.Word word.Escape ∷ token.Name x ∷ in_braces (written_items body) r
@@ -99,9 +100,9 @@ abbrev mutual
       token.Word word.When ∷ open_round ∷ bracketed (needs_brackets e) (written e)
       (close_round ∷ arrow ∷ in_braces (written_items body) (token.Word word.Catch ∷ bound p ∷ in_braces (written_items handler) r))
   written new_promise r = token.Word word.Ref ∷ dot ∷ token.Name (codes "promise") ∷ open_round ∷ close_round ∷ r
-  written (break_ref e) r =
+  written (primitive primitives.BreakRef e) r =
       token.Word word.Ref ∷ dot ∷ token.Name (codes "broken") ∷ open_round ∷ bracketed (needs_brackets e) (written e) (close_round ∷ r)
-  written (state_ref e) r =
+  written (primitive primitives.StateRef e) r =
       token.Word word.Ref ∷ dot ∷ token.Name (codes "state") ∷ open_round ∷ bracketed (needs_brackets e) (written e) (close_round ∷ r)
 
   -- the methods of an object

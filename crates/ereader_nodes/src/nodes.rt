@@ -1,14 +1,14 @@
 // The nodes of trees. An expression goes behind an `Arc`, or into a vector, before anything else is done: to let go of one
 // that is owned takes code for each kind of expression, wherever that may happen.
 ghost use Rattle.std.specs.Prelude.{◌≡◌, [], ◌∷◌, IfOk};
-ghost use Rattle.kernele.specs.Tree.{int_tree, text_tree, noun as noun_tree, call as call_tree, list_tree, hide as hide_tree, if_tree, while_tree, for_tree, try_tree, throw_tree, object_tree, escape_tree, send as send_tree, when_tree, when_catch_tree, new_promise as promise_tree, break_ref as break_tree, state_ref as state_tree};
+ghost use Rattle.kernele.specs.Tree.{int_tree, text_tree, noun as noun_tree, call as call_tree, list_tree, hide as hide_tree, if_tree, while_tree, for_tree, try_tree, primitive as primitive_tree, object_tree, escape_tree, send as send_tree, when_tree, when_catch_tree, new_promise as promise_tree};
 ghost use Rattle.kernele.specs.View.{tree_of, trees_of, methods_of};
 ghost use Rattle.ereader_nodes.specs.Nodes.{given, method_tree};
 ghost use Rattle.ereader_nodes.specs.View.{place_of, method_of};
 
 use crate::target::Target;
 use ids::text::Text;
-use kernele::tree::{Expr, Method, Pattern};
+use kernele::tree::{Expr, Method, Pattern, Primitive};
 use std::alloc::{AllocError, Global};
 use std::sync::Arc;
 
@@ -146,11 +146,11 @@ pub fn try_catch(
     Ok(Expr::Try(body, pattern, handler))
 }
 
-/// The end of a block by a problem.
-pub fn throw(problem: Arc<Expr>) -> Expr
-    ensures { tree_of result ≡ throw_tree (tree_of problem.value) }
+/// What the language itself does with a value.
+pub fn primitive(primitive: Primitive, value: Arc<Expr>) -> Expr
+    ensures { tree_of result ≡ primitive_tree primitive (tree_of value.value) }
 {
-    Expr::Throw(problem)
+    Expr::Primitive(primitive, value)
 }
 
 /// A value, and the block that runs when it is known.
@@ -181,20 +181,6 @@ pub fn new_promise() -> Expr
     ensures { tree_of result ≡ promise_tree }
 {
     Expr::NewPromise
-}
-
-/// A broken value, of this problem.
-pub fn break_ref(problem: Arc<Expr>) -> Expr
-    ensures { tree_of result ≡ break_tree (tree_of problem.value) }
-{
-    Expr::BreakRef(problem)
-}
-
-/// How far a value is known.
-pub fn state_ref(value: Arc<Expr>) -> Expr
-    ensures { tree_of result ≡ state_tree (tree_of value.value) }
-{
-    Expr::StateRef(value)
 }
 
 /// A block that an ejector ends.

@@ -14,7 +14,7 @@ use ereader_nodes::nodes;
 use ereader_signs::stop::ReadStop;
 use etoken::breaks::Bracket;
 use etoken::token::Reserved;
-use kernele::tree::{Expr, Pattern};
+use kernele::tree::{Expr, Pattern, Primitive};
 use std::sync::Arc;
 
 impl<'a> Reader<'a> {
@@ -109,7 +109,7 @@ impl<'a> Reader<'a> {
             Reserved::Throw => {
                 self.skip();
                 let problem = self.condition(left)?;
-                Ok(nodes::throw(problem))
+                Ok(nodes::primitive(Primitive::Throw, problem))
             }
             Reserved::Def => {
                 self.skip();
@@ -234,11 +234,11 @@ impl<'a> Reader<'a> {
             RefWord::Promise => self.promise(),
             RefWord::Broken => {
                 let problem = self.condition(left)?;
-                Ok(nodes::break_ref(problem))
+                Ok(nodes::primitive(Primitive::BreakRef, problem))
             }
             RefWord::State => {
                 let value = self.condition(left)?;
-                Ok(nodes::state_ref(value))
+                Ok(nodes::primitive(Primitive::StateRef, value))
             }
         }
     }

@@ -1,5 +1,5 @@
 // Which line breaks give a semicolon.
-ghost use Rattle.std.specs.Prelude.{◌≡◌, ◌&&◌, List, [], false, OnOk, IfErr, reverse};
+ghost use Rattle.std.specs.Prelude.{◌≡◌, ◌&&◌, [], false, OnOk, IfErr, reverse};
 ghost use Rattle.etoken.specs.Breaks.{may_end, may_begin, word_begins, in_items, behind};
 ghost use Rattle.etoken.specs.declared.fault.TokenFault.TheVariants.{Memory};
 

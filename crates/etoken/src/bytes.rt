@@ -1,5 +1,5 @@
 // Runs of bytes of one kind, and what stands between tokens.
-ghost use Rattle.std.specs.Prelude.{false, ◌≡◌, ◌<◌, ◌≤◌, ◌∷◌, length, IfSome, MatchOption};
+ghost use Rattle.std.specs.Prelude.{false, ◌≡◌, ◌<◌, ◌∷◌, length, MatchOption};
 ghost use Rattle.std.specs.List.{take_while};
 ghost use Rattle.std.specs.Char.{is_ascii_digit};
 ghost use Rattle.etoken.specs.Bytes.{is_word_byte, is_plain, is_in_line, Longest, begins_with, is_ascii_byte};

@@ -13,7 +13,7 @@ use Rattle.eval_rules.specs.Rules.{seeking, slot_put, capturing}
 use Rattle.eval_rules.proofs.Seeking.{seeking_reads, noun_reads, captures_read}
 use Rattle.eval_rules.specs.Rules.{sought_slot, bound_in, matched, matched_all, defined, Listing, listed, unlisted, parts_of, parts_bound, next_slot, has_room, slot_made, variable_made, declared, assigned}
 use Rattle.eval_rules.specs.Rules.{Capture, captured, missing, capture_of, object_made, placed, with_object}
-use Rattle.eval_rules.specs.Rules.{entering, Ends, at_budget, at_depth, at_node, Runs, run_null, run_bool, run_int, run_text, run_noun, run_define, run_variable, run_assign, run_call_receiver, run_call_gives, run_call_enters, run_call_uses, run_send_receiver, run_send, run_list, run_same_left, run_same, run_define_list, run_hide, run_throw, run_if_goes, run_if_ends, run_while_again, run_while_halts, run_while_done, run_while_ends, run_for, run_for_ends, run_try, run_try_caught, run_object, run_escape, run_when, run_when_catch, run_new_promise, run_break_ref, run_state_ref, Needs, needs, Args, args_none, args_next, args_halt, Items, items_none, items_next, items_halt, Block, in_block, Taking, in_taking, Each, each_none, each_next, each_halt}
+use Rattle.eval_rules.specs.Rules.{entering, Ends, at_budget, at_depth, at_node, Runs, run_null, run_bool, run_int, run_text, run_noun, run_define, run_variable, run_assign, run_call_receiver, run_call_gives, run_call_enters, run_call_uses, run_send_receiver, run_send, run_list, run_same_left, run_same, run_define_list, run_hide, run_primitive, run_if_goes, run_if_ends, run_while_again, run_while_halts, run_while_done, run_while_ends, run_for, run_for_ends, run_try, run_try_caught, run_object, run_escape, run_when, run_when_catch, run_new_promise, Needs, needs, Args, args_none, args_next, args_halt, Items, items_none, items_next, items_halt, Block, in_block, Taking, in_taking, Each, each_none, each_next, each_halt}
 use Rattle.eval_rules.specs.Doings.{next_object, has_object_room, datum_of, datum_read}
 use Rattle.eval_rules.proofs.Doings.{datum_works, called_works, sent_works, when_works, pair_works, used_works, same_works}
 
@@ -89,7 +89,7 @@ mutual
   runs_home (run_same {c = c} {v = v} {o = o} r u) = ap (λ b. b.vat) (same_works v o c) ∙ (ends_home u ∙ ends_home r)
   runs_home (run_define_list {ps = ps} {b = b} {o = o} r) = parts_home ps (parts_of ps (datum_of o b)) (datum_read o b) ∙ (ap (λ b. b.vat) (datum_works o b) ∙ ends_home r)
   runs_home (run_hide q) = block_home q
-  runs_home (run_throw r) = needs_home r
+  runs_home (run_primitive r) = needs_home r
   runs_home (run_if_goes r e q) = block_home q ∙ needs_home r
   runs_home (run_if_ends r e) = needs_home r
   runs_home (run_while_again r e q w) = runs_home w ∙ (block_home q ∙ needs_home r)
@@ -105,8 +105,6 @@ mutual
   runs_home (run_when {body = body} {b = b} {o = o} r) = ap (λ b. b.vat) (when_works body None o b) ∙ ends_home r
   runs_home (run_when_catch {body = body} {p = p} {handler = handler} {b = b} {o = o} r) = ap (λ b. b.vat) (when_works body (Some (record { pattern = p; block = handler })) o b) ∙ ends_home r
   runs_home (run_new_promise {a = a}) = ap (λ b. b.vat) (pair_works a)
-  runs_home (run_break_ref r) = needs_home r
-  runs_home (run_state_ref r) = needs_home r
 
   needs_home : {k : ℕ} {t : Tree} {a b : At} {o : End} → Needs k t a o b → b.vat ≡ a.vat
   needs_home (needs {b = b} {o = o} r) = ap (λ b. b.vat) (datum_works o b) ∙ ends_home r

@@ -5,19 +5,17 @@ use Rattle.code.specs.declared.code.Code as code
 use Rattle.code.specs.declared.code.Code.{Code}
 use Rattle.eval_rules.specs.At.{At}
 use Rattle.eval_rules.specs.Fits.{frame_at}
-use Rattle.eval_rules.specs.Doings.{datum_of, datum_read, state_end}
+use Rattle.eval_rules.specs.Doings.{datum_of, datum_read}
 use Rattle.eval_rules.specs.Outcomes.{End}
-use Rattle.eval_rules.specs.Rules.{defined, declared, declared_end, assigned, assigned_end, sought_slot, parts_of, parts_bound, parts_end, thrown_end, broken_end}
+use Rattle.eval_rules.specs.Rules.{defined, declared, declared_end, assigned, assigned_end, sought_slot, parts_of, parts_bound, parts_end, primitive_end}
 
--- the right side of a definition, a variable, an assignment, a throw, a broken reference and the state of one
+-- the right side of a definition, a variable, an assignment and a primitive
 abbrev pub right_side : Code → Option Code
 right_side (code.Def' pattern p e) = Some e
 right_side (code.Var' x p e) = Some e
 right_side (code.Assign' x at p e) = Some e
 right_side (code.DefList' patterns p e) = Some e
-right_side (code.Throw' p e) = Some e
-right_side (code.BreakRef' p e) = Some e
-right_side (code.StateRef' p e) = Some e
+right_side (code.Primitive' q p e) = Some e
 right_side _ = None
 
 -- how an expression ends whose right side ended so ..
@@ -25,9 +23,7 @@ abbrev pub taken_end : Code → End → At → End
 taken_end (code.Var' x p e) o a = declared_end o a
 taken_end (code.Assign' x at p e) o a = assigned_end x o (sought_slot x a)
 taken_end (code.DefList' patterns p e) o a = parts_end o (parts_of patterns.value.items (datum_of o a))
-taken_end (code.Throw' p e) o a = thrown_end (datum_of o a)
-taken_end (code.BreakRef' p e) o a = broken_end (datum_of o a)
-taken_end (code.StateRef' p e) o a = state_end a.vat (datum_of o a)
+taken_end (code.Primitive' q p e) o a = primitive_end (datum_of o a) a.vat q
 taken_end _ o a = o
 
 -- .. and where
@@ -36,9 +32,7 @@ taken_at (code.Def' pattern p e) o a = defined pattern o a
 taken_at (code.Var' x p e) o a = declared x o a
 taken_at (code.Assign' x at p e) o a = assigned x o a
 taken_at (code.DefList' patterns p e) o a = parts_bound patterns.value.items (parts_of patterns.value.items (datum_of o a)) (datum_read o a)
-taken_at (code.Throw' p e) o a = datum_read o a
-taken_at (code.BreakRef' p e) o a = datum_read o a
-taken_at (code.StateRef' p e) o a = datum_read o a
+taken_at (code.Primitive' q p e) o a = datum_read o a
 taken_at _ o a = a
 
 -- the name that is assigned is at its place

@@ -62,9 +62,7 @@ pub fn eval(w: &mut Working, e: &Code, level: u32, into: &mut Value) -> Result<(
         | Code::Var(_, right)
         | Code::Assign(_, _, right)
         | Code::DefList(_, right)
-        | Code::Throw(right)
-        | Code::BreakRef(right)
-        | Code::StateRef(right) => eval_right(w, e, right, level, into),
+        | Code::Primitive(_, right) => eval_right(w, e, right, level, into),
         Code::Call(receiver, verb, args) => eval_call(w, receiver, verb, args, level, into),
         Code::Send(receiver, verb, args) => eval_send(w, receiver, verb, args, level, into),
         Code::List(items) => eval_list(w, items, level, into),

@@ -5,6 +5,7 @@ ghost use Rattle.eval_objects.specs.Making.{TakesParts};
 ghost use Rattle.eval_rules.specs.Doings.{datum_of, datum_read};
 ghost use Rattle.eval_rules.specs.Outcomes.{value as value_end};
 ghost use Rattle.eval_rules.specs.Answered.{OnEnd};
+ghost use Rattle.eval_rules.specs.Rules.{primitive_end};
 ghost use Rattle.eval_rules.specs.View.{at};
 ghost use Rattle.eval.specs.Sides.{is_placed, taken_at, taken_end};
 
@@ -15,7 +16,7 @@ use eval_objects::nouns::{assign, bind_parts, declare, match_pattern};
 use eval_rules::end::Stop;
 use eval_rules::wanted::thrown;
 use eval_rules::working::Working;
-use kernele::tree::Pattern;
+use kernele::tree::{Pattern, Primitive};
 use values::value::Value;
 
 /// Has an expression take the value of its right side. One that has none leaves the value as it is.
@@ -30,19 +31,23 @@ pub(crate) fn take(w: &mut Working, e: &Code, into: &mut Value) -> Result<(), St
         Code::DefList(patterns, _) => take_parts(w, patterns, into),
         Code::Var(name, _) => declare(w, name, into),
         Code::Assign(name, place, _) => assign(w, name, *place, into),
-        Code::Throw(_) => {
+        Code::Primitive(primitive, _) => {
             take_end(w, into)?;
-            Err(thrown(w, into))
-        }
-        Code::BreakRef(_) => {
-            take_end(w, into)?;
-            give_broken(w, into)
-        }
-        Code::StateRef(_) => {
-            take_end(w, into)?;
-            give_state(w, into)
+            give_made(w, *primitive, into)
         }
         _ => Ok(()),
+    }
+}
+
+/// Gives what a primitive makes of a value at its end.
+#[inline(always)]
+fn give_made(w: &mut Working, primitive: Primitive, into: &mut Value) -> Result<(), Stop>
+    ensures { OnEnd result into.new w.new (λ o b. (o ≡ primitive_end (value_end (val_of into.old)) (at w.old).vat primitive) × (b ≡ at w.old)) }
+{
+    match primitive {
+        Primitive::Throw => Err(thrown(w, into)),
+        Primitive::BreakRef => give_broken(w, into),
+        Primitive::StateRef => give_state(w, into),
     }
 }
 

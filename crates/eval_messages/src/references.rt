@@ -19,7 +19,7 @@ use eval_rules::working::Working;
 use ids::text::Text;
 use refs::kinds::{Kind, kind_of};
 use sends::ends::settle;
-use std::alloc::{AllocError, Global};
+use std::alloc::AllocError;
 use values::sameness::same_reply;
 use values::value::Value;
 

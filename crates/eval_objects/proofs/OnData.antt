@@ -15,7 +15,7 @@ use Rattle.eval_rules.specs.At.{At}
 use Rattle.eval_rules.specs.Doings.{given_by, behind, data_with, data_of}
 use Rattle.eval_rules.specs.Outcomes.{value, values, reply_end}
 use Rattle.eval_rules.specs.Rules as rules
-use Rattle.eval_rules.specs.Rules.{Callee, on_datum, callee_of, callee_target, callee_read, target_of, called}
+use Rattle.eval_rules.specs.Rules.{on_datum, callee_of, callee_target, callee_read, target_of, called}
 use Rattle.eval_messages.proofs.Behind.{own_end, own_given, own_behind}
 
 -- a call on what is its own end

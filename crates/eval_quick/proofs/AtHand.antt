@@ -22,12 +22,12 @@ use Rattle.eval_rules.specs.Doings.{same_vat}
 use Rattle.eval_rules.specs.Fits.{all_fit_at}
 use Rattle.eval_rules.specs.Locals.{captured_in, locals_after}
 use Rattle.eval_rules.specs.Outcomes.{End, Gather, value, values, halted}
-use Rattle.eval_rules.specs.Rules.{on_object, if_own, callee_target, callee_read, target_of, called, enters, inside, leaving, named, named_all, method_target, object_target, Ends, Runs, run_call_enters, Args, Items}
+use Rattle.eval_rules.specs.Rules.{on_object, if_own, callee_target, callee_read, target_of, called, enters, inside, leaving, named, named_all, method_target, object_target, Runs, run_call_enters, Args, Items}
 use Rattle.eval_rules.specs.declared.local.Local.{Local}
 use Rattle.eval_rules.proofs.Captures.{named_end}
 use Rattle.eval_rules.proofs.Fitting.{all_fit_then, fits_from, method_fits}
 use Rattle.eval_rules.proofs.Steps.{after_values, args_more, args_pushed, args_done, args_end}
-use Rattle.eval_quick.specs.Direct.{IsReceiver, GivenAtHand, NamesAtHand, MeetsAtHand}
+use Rattle.eval_quick.specs.Direct.{IsReceiver, NamesAtHand, MeetsAtHand}
 use Rattle.eval_objects.specs.Finding.{FindsForCount}
 use Rattle.eval_quick.specs.Leaves.{Leaf, AtHand}
 use Rattle.eval_quick.specs.declared.direct.Direct.{Direct}

@@ -3,6 +3,7 @@ use Rattle.std.proofs.Common.{◌≡◌, ℕ, List, [], ◌∷◌, ◌++◌, Boo
 use Rattle.std.proofs.lemmas.List.{map-append}
 use Rattle.ids.specs.declared.names.SlotId.{SlotId}
 use Rattle.kernele.specs.Tree.{Name, Tree, Trees, Methods}
+use Rattle.kernele.specs.declared.tree.Primitive.{Primitive}
 use Rattle.kernele_scopes.specs.Free.{captures}
 use Rattle.kernele_scopes.specs.Scope.{defined_name, variable_name, name_of, names_of_all, own_names, own_names_in}
 use Rattle.kernele_scopes.specs.declared.naming.TopName.{TopName}
@@ -10,16 +11,16 @@ use Rattle.kernele.specs.declared.tree.Pattern.{Pattern}
 use Rattle.kernele.specs.declared.tree.Pattern.TheVariants as pattern
 use Rattle.code.specs.Frames.{Frame, only_names, behind}
 use Rattle.values.specs.Data.{Val, null, bool, int, text, list, broken, object, ejector, promise, Vals, no_vals, and_val}
-use Rattle.values.specs.Replies.{items_in, list_reply, text_in}
+use Rattle.values.specs.Replies.{items_in, list_reply}
 use Rattle.heap.specs.State.{Bind, fixed, slot, Plain, frame_of}
 use Rattle.eval_rules.specs.At.{At}
 use Rattle.eval_rules.specs.Outcomes.{End, value, halt, Gather, values, halted, reply_end}
-use Rattle.eval_rules.specs.Rules.{seeking, noun_read, slot_put, capturing, called, uses, receiver, receiver_read, when_end, when_made, broken_by, broken_end}
+use Rattle.eval_rules.specs.Rules.{seeking, noun_read, slot_put, capturing, called, uses, receiver, receiver_read, when_end, when_made}
 use Rattle.eval_rules.proofs.Seeking.{Reads, seeking_reads, noun_reads, captures_read}
 use Rattle.eval_rules.specs.Rules.{begun, Listing, listed, unlisted, listing_by, listing_of, taken, parts_of, parts_bound, parts_end, mismatch, as_many, again, bound_in, matched, matched_all, next_slot, has_room, slot_made, variable_made, variable_end, assigned, assigned_end, Capture, captured, missing, capture_of, object_made, placed, placed_end, with_object, object_end, leaving, escaped, sought_slot}
-use Rattle.eval_rules.specs.Rules.{Target, gives, enters, callee_of, callee_target, target_of, list_end, Choice, goes, ends, bool_in, choice_by, choice_of, thrown_by, thrown_end, next_ejector, escape_end}
-use Rattle.eval_rules.specs.Rules.{Ends, at_budget, at_depth, at_node, Runs, run_null, run_bool, run_int, run_text, run_noun, run_define, run_variable, run_assign, run_call_receiver, run_call_gives, run_call_enters, run_call_uses, run_send_receiver, run_send, run_list, run_same_left, run_same, run_define_list, run_hide, run_throw, run_if_goes, run_if_ends, run_while_again, run_while_halts, run_while_done, run_while_ends, run_for, run_for_ends, run_try, run_try_caught, run_object, run_escape, run_when, run_when_catch, run_new_promise, run_break_ref, run_state_ref, Needs, needs, Args, args_none, args_next, args_halt, Block, in_block, Taking, in_taking, Each, each_none, each_next, each_halt}
-use Rattle.eval_rules.specs.Doings.{next_object, has_object_room, same_end, same_read, sent_end, sent_at, datum_of, datum_read, state_end, given_by, resolver_end, resolver_out, promise_pair, pair_end, pair_out, behind as left_by}
+use Rattle.eval_rules.specs.Rules.{Target, gives, enters, callee_of, callee_target, target_of, list_end, Choice, goes, ends, bool_in, choice_by, choice_of, made_of, primitive_end, next_ejector, escape_end}
+use Rattle.eval_rules.specs.Rules.{Ends, at_budget, at_depth, at_node, Runs, run_null, run_bool, run_int, run_text, run_noun, run_define, run_variable, run_assign, run_call_receiver, run_call_gives, run_call_enters, run_call_uses, run_send_receiver, run_send, run_list, run_same_left, run_same, run_define_list, run_hide, run_primitive, run_if_goes, run_if_ends, run_while_again, run_while_halts, run_while_done, run_while_ends, run_for, run_for_ends, run_try, run_try_caught, run_object, run_escape, run_when, run_when_catch, run_new_promise, Needs, needs, Args, args_none, args_next, args_halt, Block, in_block, Taking, in_taking, Each, each_none, each_next, each_halt}
+use Rattle.eval_rules.specs.Doings.{next_object, has_object_room, same_end, same_read, sent_end, sent_at, datum_of, datum_read, given_by, resolver_end, resolver_out, promise_pair, pair_end, pair_out, behind as left_by}
 use Rattle.eval_rules.proofs.Doings.{Works, datum_works, called_works, sent_works, when_works, pair_works, used_works, same_works}
 use Rattle.post.specs.Delivery.{Handler}
 use Rattle.sends.specs.Vats.{ended}
@@ -196,13 +197,9 @@ datum_adds : (o : End) (ts : List TopName) (a b : At) → EndAdds o ts a b → E
 datum_adds (value v) ts a b h = worked_adds ts a b (datum_read (value v) b) h (datum_works (value v) b)
 datum_adds (halt s) ts a b h = tt
 
-broken_adds : (o : End) (ts : List TopName) (a b : At) → EndAdds o ts a b → EndAdds (broken_end o) ts a b
-broken_adds (value v) ts a b h = end_adds (broken_by v (text_in v)) ts a b h
-broken_adds (halt s) ts a b h = tt
-
-state_adds : (here : VatNo) (o : End) (ts : List TopName) (a b : At) → EndAdds o ts a b → EndAdds (state_end here o) ts a b
-state_adds here (value v) ts a b h = h
-state_adds here (halt s) ts a b h = tt
+primitive_adds : (o : End) (here : VatNo) (q : Primitive) (ts : List TopName) (a b : At) → EndAdds o ts a b → EndAdds (primitive_end o here q) ts a b
+primitive_adds (value v) here q ts a b h = end_adds (made_of q here v) ts a b h
+primitive_adds (halt s) here q ts a b h = tt
 
 tested_adds : (c : Choice) (ts : List TopName) (a b : At) → Adds ts a b → ChoiceAdds c ts a b
 tested_adds (goes q) ts a b h = h
@@ -219,10 +216,6 @@ wanted_adds (unlisted o) ts a b h = end_adds o ts a b h
 listing_adds : (o : End) (ts : List TopName) (a b : At) → EndAdds o ts a b → ListingAdds (listing_of o) ts a b
 listing_adds (value v) ts a b h = wanted_adds (listing_by (codes "not a list") v (items_in v)) ts a b h
 listing_adds (halt s) ts a b h = tt
-
-thrown_adds : (o : End) (ts : List TopName) (a b : At) → EndAdds o ts a b → EndAdds (thrown_end o) ts a b
-thrown_adds (value v) ts a b h = end_adds (thrown_by v (text_in v)) ts a b h
-thrown_adds (halt s) ts a b h = tt
 
 -- ---- blocks end with their names, in the scope in which they began
 
@@ -278,7 +271,7 @@ mutual
       (worked_adds (own_names e) a b d (ends_add r) (datum_works (value v) b)) (taken_adds ps v w (items_in w) d)
   runs_add (run_define_list {o = halt h} r) = tt
   runs_add {a = a} {b = b} {o = o} (run_hide q) = stays o a b (block_stays q).0 (block_stays q).1
-  runs_add (run_throw {e = e} {a = a} {b = b} {o = o} r) = thrown_adds o (own_names e) a b (needs_add r)
+  runs_add (run_primitive {q = q} {e = e} {a = a} {b = b} {o = o} r) = primitive_adds o a.vat q (own_names e) a b (needs_add r)
   runs_add (run_if_goes {c = c} {a = a} {b = b} {d = d} {o = o} {p = p} r e q) =
       end_adds p (own_names c) a d (adds_on (own_names c) a b d (subst (λ s. ChoiceAdds s (own_names c) a b) e (choice_adds o (own_names c) a b (needs_add r))) (block_stays q).0 (block_stays q).1)
   runs_add (run_if_ends {c = c} {a = a} {b = b} {o = o} r e) = subst (λ s. ChoiceAdds s (own_names c) a b) e (choice_adds o (own_names c) a b (needs_add r))
@@ -300,8 +293,6 @@ mutual
   runs_add (run_new_promise {a = a}) =
       let z = pair_out (given_by (promise_pair a) a) (left_by (promise_pair a) a) in
       stays (pair_end (given_by (promise_pair a) a) a) a z (ap (λ b. b.nouns) (pair_works a)) (ap (λ b. b.own_scope) (pair_works a))
-  runs_add (run_break_ref {e = e} {a = a} {b = b} {o = o} r) = broken_adds o (own_names e) a b (needs_add r)
-  runs_add (run_state_ref {e = e} {a = a} {b = b} {o = o} r) = state_adds a.vat o (own_names e) a b (needs_add r)
 
   pub needs_add : {k : ℕ} {t : Tree} {a b : At} {o : End} → Needs k t a o b → EndAdds o (own_names t) a b
   needs_add (needs {t = t} {a = a} {b = b} {o = o} r) = datum_adds o (own_names t) a b (ends_add r)

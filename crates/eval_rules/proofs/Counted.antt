@@ -7,7 +7,7 @@ use Rattle.values.specs.Data.{Val, Vals}
 use Rattle.eval_rules.specs.At.{At}
 use Rattle.eval_rules.specs.Outcomes.{End, Gather}
 use Rattle.eval_rules.specs.Derivations.{nodes, nodes_below, nodes_of_args, nodes_of_items, nodes_of_block, nodes_of_taking, nodes_of_each, deepest, deepest_below, deepest_of_args, deepest_of_items, deepest_of_block, deepest_of_taking, deepest_of_each, nodes_of_datum, deepest_of_datum}
-use Rattle.eval_rules.specs.Rules.{parts_of, entering, captured, capture_of, capturing, Ends, at_budget, at_depth, at_node, Runs, run_null, run_bool, run_int, run_text, run_noun, run_define, run_variable, run_assign, run_call_receiver, run_call_gives, run_call_enters, run_call_uses, run_send_receiver, run_send, run_list, run_same_left, run_same, run_define_list, run_hide, run_throw, run_if_goes, run_if_ends, run_while_again, run_while_halts, run_while_done, run_while_ends, run_for, run_for_ends, run_try, run_try_caught, run_object, run_escape, run_when, run_when_catch, run_new_promise, run_break_ref, run_state_ref, Needs, needs, Args, args_none, args_next, args_halt, Items, items_none, items_next, items_halt, Block, in_block, Taking, in_taking, Each, each_none, each_next, each_halt}
+use Rattle.eval_rules.specs.Rules.{parts_of, entering, captured, capture_of, capturing, Ends, at_budget, at_depth, at_node, Runs, run_null, run_bool, run_int, run_text, run_noun, run_define, run_variable, run_assign, run_call_receiver, run_call_gives, run_call_enters, run_call_uses, run_send_receiver, run_send, run_list, run_same_left, run_same, run_define_list, run_hide, run_primitive, run_if_goes, run_if_ends, run_while_again, run_while_halts, run_while_done, run_while_ends, run_for, run_for_ends, run_try, run_try_caught, run_object, run_escape, run_when, run_when_catch, run_new_promise, Needs, needs, Args, args_none, args_next, args_halt, Items, items_none, items_next, items_halt, Block, in_block, Taking, in_taking, Each, each_none, each_next, each_halt}
 use Rattle.eval_rules.proofs.Seeking.{noun_reads, captures_read}
 use Rattle.eval_rules.proofs.Spent.{matched_left, defined_left, parts_left, declared_left, assigned_left, object_left}
 use Rattle.eval_rules.proofs.Doings.{datum_works, called_works, sent_works, when_works, pair_works, used_works, same_works}
@@ -39,7 +39,7 @@ mutual
   runs_counted (run_same {c = c} {v = v} {o = o} r u) = omega (arith, ends_counted r, ends_counted u, ap (λ b. b.left) (same_works v o c))
   runs_counted (run_define_list {ps = ps} {b = b} {o = o} r) = omega (arith, ends_counted r, ap (λ b. b.left) (datum_works o b), parts_left ps (parts_of ps (datum_of o b)) (datum_read o b))
   runs_counted (run_hide q) = block_counted q
-  runs_counted (run_throw r) = needs_counted r
+  runs_counted (run_primitive r) = needs_counted r
   runs_counted (run_if_goes r e q) = omega (arith, needs_counted r, block_counted q)
   runs_counted (run_if_ends r e) = needs_counted r
   runs_counted (run_while_again r e q w) = omega (arith, needs_counted r, block_counted q, runs_counted w)
@@ -55,8 +55,6 @@ mutual
   runs_counted (run_when {body = body} {b = b} {o = o} r) = omega (arith, ends_counted r, ap (λ b. b.left) (when_works body None o b))
   runs_counted (run_when_catch {body = body} {p = p} {handler = handler} {b = b} {o = o} r) = omega (arith, ends_counted r, ap (λ b. b.left) (when_works body (Some (record { pattern = p; block = handler })) o b))
   runs_counted (run_new_promise {a = a}) = omega (arith, ap (λ b. b.left) (pair_works a))
-  runs_counted (run_break_ref r) = needs_counted r
-  runs_counted (run_state_ref r) = needs_counted r
 
   pub needs_counted : {k : ℕ} {t : Tree} {a b : At} {o : End} (r : Needs k t a o b) → nodes_of_datum r + b.left ≡ a.left
   needs_counted (needs {b = b} {o = o} r) = omega (arith, ends_counted r, ap (λ b. b.left) (datum_works o b))
@@ -108,7 +106,7 @@ mutual
   runs_deep (run_same r u) = omega (arith, ends_deep r, ends_deep u)
   runs_deep (run_define_list r) = ends_deep r
   runs_deep (run_hide q) = block_deep q
-  runs_deep (run_throw r) = needs_deep r
+  runs_deep (run_primitive r) = needs_deep r
   runs_deep (run_if_goes r e q) = omega (arith, needs_deep r, block_deep q)
   runs_deep (run_if_ends r e) = needs_deep r
   runs_deep (run_while_again r e q w) = omega (arith, needs_deep r, block_deep q, runs_deep w)
@@ -124,8 +122,6 @@ mutual
   runs_deep (run_when r) = ends_deep r
   runs_deep (run_when_catch r) = ends_deep r
   runs_deep run_new_promise = omega arith
-  runs_deep (run_break_ref r) = needs_deep r
-  runs_deep (run_state_ref r) = needs_deep r
 
   pub needs_deep : {k : ℕ} {t : Tree} {a b : At} {o : End} (r : Needs k t a o b) → deepest_of_datum r ≤ 1000
   needs_deep (needs r) = ends_deep r

@@ -6,8 +6,8 @@ use Rattle.values.specs.Data.{Val, null, text, Vals, no_vals}
 use Rattle.heap.specs.State.{Nouns}
 use Rattle.eval_rules.specs.At.{At}
 use Rattle.eval_rules.specs.Outcomes.{Halt, End, value, halt, Gather, values, halted}
-use Rattle.eval_rules.specs.Rules.{Listing, listed, unlisted, listing_of, parts_of, parts_bound, parts_end, Choice, goes, ends, choice_of, chosen, thrown_end, caught, leaving, again, sought_slot, defined, declared, declared_end, assigned, assigned_end, Target, gives, enters, target_of, called, inside, next_ejector, escaped, escape_end, list_end, gather_first, Ends, at_budget, at_depth, at_node, Runs, run_null, run_bool, run_int, run_text, run_noun, run_define, run_variable, run_assign, run_call_receiver, run_call_gives, run_call_enters, run_call_uses, run_send_receiver, run_send, run_list, run_same_left, run_same, run_define_list, run_hide, run_throw, run_if_goes, run_if_ends, run_while_again, run_while_halts, run_while_done, run_while_ends, run_for, run_for_ends, run_try, run_try_caught, run_object, run_escape, run_when, run_when_catch, run_new_promise, run_break_ref, run_state_ref, Needs, needs, Args, args_none, args_next, args_halt, Items, items_none, items_next, items_halt, Block, in_block, Taking, in_taking, Each, each_none, each_next, each_halt, uses, when_end, when_made, broken_end}
-use Rattle.eval_rules.specs.Doings.{same_end, same_read, sent_end, sent_at, datum_of, datum_read, state_end, given_by, behind, resolver_end, resolver_out}
+use Rattle.eval_rules.specs.Rules.{Listing, listed, unlisted, listing_of, parts_of, parts_bound, parts_end, Choice, goes, ends, choice_of, chosen, primitive_end, caught, leaving, again, sought_slot, defined, declared, declared_end, assigned, assigned_end, Target, gives, enters, target_of, called, inside, next_ejector, escaped, escape_end, list_end, gather_first, Ends, at_budget, at_depth, at_node, Runs, run_null, run_bool, run_int, run_text, run_noun, run_define, run_variable, run_assign, run_call_receiver, run_call_gives, run_call_enters, run_call_uses, run_send_receiver, run_send, run_list, run_same_left, run_same, run_define_list, run_hide, run_primitive, run_if_goes, run_if_ends, run_while_again, run_while_halts, run_while_done, run_while_ends, run_for, run_for_ends, run_try, run_try_caught, run_object, run_escape, run_when, run_when_catch, run_new_promise, Needs, needs, Args, args_none, args_next, args_halt, Items, items_none, items_next, items_halt, Block, in_block, Taking, in_taking, Each, each_none, each_next, each_halt, uses, when_end, when_made}
+use Rattle.eval_rules.specs.Doings.{same_end, same_read, sent_end, sent_at, datum_of, datum_read, given_by, behind, resolver_end, resolver_out}
 use Rattle.post.specs.Delivery.{Handler}
 use Rattle.sends.specs.Vats.{Vat}
 use Rattle.sends.specs.Making.{Making, Published}
@@ -252,7 +252,7 @@ mutual
   runs_same (run_same r q) (run_same s u) = let t = ends_same r s in over_value same_end same_read (value_same t.end) (ends_same q (ends_at t.place u))
   runs_same (run_define_list {ps = ps} r) (run_define_list s) = along (λ o b. parts_end o (parts_of ps (datum_of o b))) (λ o b. parts_bound ps (parts_of ps (datum_of o b)) (datum_read o b)) (ends_same r s)
   runs_same (run_hide q) (run_hide u) = block_same q u
-  runs_same (run_throw r) (run_throw s) = along (λ o b. thrown_end o) (λ o b. b) (needs_same r s)
+  runs_same {a = a} (run_primitive {q = q} r) (run_primitive s) = along (λ o b. primitive_end o a.vat q) (λ o b. b) (needs_same r s)
   runs_same (run_if_goes {first = first} {second = second} r e q) (run_if_goes s f u) = let t = needs_same r s in block_same q (block_at (ap (λ m. chosen m first second) (goes_same (meet choice_of t e f))) t.place u)
   runs_same (run_if_goes r e q) (run_if_ends s f) = absurd (goes_ends (meet choice_of (needs_same r s) e f))
   runs_same (run_if_ends r e) (run_if_goes s f u) = absurd (goes_ends (sym (meet choice_of (needs_same r s) e f)))
@@ -288,8 +288,6 @@ mutual
       let h : Option Handler = Some (record { pattern = p; block = handler }) in
       along (λ o b. when_end body h o b) (λ o b. when_made body h o b) (ends_same r s)
   runs_same run_new_promise run_new_promise = alike
-  runs_same (run_break_ref r) (run_break_ref s) = along (λ o b. broken_end o) (λ o b. b) (needs_same r s)
-  runs_same {a = a} (run_state_ref r) (run_state_ref s) = along (λ o b. state_end a.vat o) (λ o b. b) (needs_same r s)
 
   pub needs_same : {k : ℕ} {t : Tree} {a b c : At} {o p : End} → Needs k t a o b → Needs k t a p c → Same o p b c
   needs_same (needs r) (needs s) = along (λ o b. datum_of o b) (λ o b. datum_read o b) (ends_same r s)

@@ -6,17 +6,19 @@ use Rattle.ids.specs.declared.names.EjId.{EjId}
 use Rattle.ids.specs.declared.names.ObjId.{ObjId}
 use Rattle.ids.specs.declared.names.SlotId.{SlotId}
 use Rattle.kernele.specs.Tree.{Name, Tree, Trees}
+use Rattle.kernele.specs.declared.tree.Primitive.{Primitive}
+use Rattle.kernele.specs.declared.tree.Primitive.TheVariants as primitives
 use Rattle.kernele.specs.declared.tree.Pattern.{Pattern}
 use Rattle.values.specs.Data.{Val, null, bool, int, text, list, object, ejector, promise, broken, Vals, Reply, gives as gives_reply, throws, no_vals, and_val}
 use Rattle.values.specs.Replies.{list_reply, text_reply, text_in, items_in, no_method}
 use Rattle.heap.specs.State.{Bind, fixed, slot, Plain, slot_cell, object_cell, Content, bound, held, made, viewed, fenced, State, read, plain, resolver}
 use Rattle.eval_rules.specs.At.{At}
 use Rattle.eval_rules.specs.Outcomes.{thrown, ejected, abandoned, End, value, halt, Gather, values, halted, reply_end}
-use Rattle.eval_rules.specs.Rules.{sought, sought_slot, held_end, noun_end, mismatch, Listing, listed, unlisted, listing_by, listing_of, taken, parts_of, parts_end, has_room, variable_end, declared_end, assigned_end, gather_first, uses, receiver, receiver_read, resolver_target, on_far, when_end, when_capture, when_capturing, waited_end, broken_by, broken_end, called}
+use Rattle.eval_rules.specs.Rules.{sought, sought_slot, held_end, noun_end, mismatch, Listing, listed, unlisted, listing_by, listing_of, taken, parts_of, parts_end, has_room, variable_end, declared_end, assigned_end, gather_first, uses, receiver, receiver_read, resolver_target, on_far, when_end, when_capture, when_capturing, waited_end, broken_by, called}
 use Rattle.eval_rules.specs.Rules.{Capture, captured, missing, capture_of, placed_end, object_end, Target, gives, enters, method_in, no_such_method, method_target, object_target, same_ejector, is_open, ejects, given, ejection, Callee, on_object, on_ejector, on_datum, callee_of, callee_target, target_of, next_ejector, escape_end}
-use Rattle.eval_rules.specs.Rules.{list_end, Choice, goes, ends, bool_in, choice_by, choice_of, thrown_by, thrown_end, entering, Ends, at_budget, at_depth, at_node, Runs, run_null, run_bool, run_int, run_text, run_noun, run_define, run_variable, run_assign, run_call_receiver, run_call_gives, run_call_enters, run_call_uses, run_send_receiver, run_send, run_list, run_same_left, run_same, run_define_list, run_hide, run_throw, run_if_goes, run_if_ends, run_while_again, run_while_halts, run_while_done, run_while_ends, run_for, run_for_ends, run_try, run_try_caught, run_object, run_escape, run_when, run_when_catch, run_new_promise, run_break_ref, run_state_ref, Needs, needs, Args, args_none, args_next, args_halt, Items, items_none, items_next, items_halt, Block, in_block, Taking, in_taking, Each, each_none, each_next, each_halt}
+use Rattle.eval_rules.specs.Rules.{list_end, Choice, goes, ends, bool_in, choice_by, choice_of, thrown_by, made_of, primitive_end, entering, Ends, at_budget, at_depth, at_node, Runs, run_null, run_bool, run_int, run_text, run_noun, run_define, run_variable, run_assign, run_call_receiver, run_call_gives, run_call_enters, run_call_uses, run_send_receiver, run_send, run_list, run_same_left, run_same, run_define_list, run_hide, run_primitive, run_if_goes, run_if_ends, run_while_again, run_while_halts, run_while_done, run_while_ends, run_for, run_for_ends, run_try, run_try_caught, run_object, run_escape, run_when, run_when_catch, run_new_promise, Needs, needs, Args, args_none, args_next, args_halt, Items, items_none, items_next, items_halt, Block, in_block, Taking, in_taking, Each, each_none, each_next, each_halt}
 use Rattle.eval_rules.proofs.Opened.{ends_opened, args_opened, block_opened, taking_opened, matched_opened, needs_opened}
-use Rattle.eval_rules.specs.Doings.{has_object_room, same_end, same_forms, sent_end, send_end, send_of, refusal_end, wait_end, wait_of, datum_of, data_of, state_end, given_by, resolver_end, promise_pair, pair_end, both_settled}
+use Rattle.eval_rules.specs.Doings.{has_object_room, same_end, same_forms, sent_end, send_end, send_of, refusal_end, wait_end, wait_of, datum_of, data_of, given_by, resolver_end, promise_pair, pair_end, both_settled}
 use Rattle.eval_rules.proofs.Doings.{called_works}
 use Rattle.post.specs.Delivery.{Handler}
 use Rattle.sends.specs.Making.{Refusal, problem as a_problem, turn_too_large, Making, refused, makes, Sent, Published, resolving, smashing}
@@ -143,10 +145,6 @@ datum_inside : (o : End) (a : At) (js : List EjId) → Inside o js → Inside (d
 datum_inside (value v) a js h = tt
 datum_inside (halt i) a js h = h
 
-state_inside : (here : VatNo) (o : End) (js : List EjId) → Inside o js → Inside (state_end here o) js
-state_inside here (value v) js h = tt
-state_inside here (halt i) js h = h
-
 listing_inside : (words : Name) (v : Val) (m : Option Vals) (js : List EjId) → ListingInside (listing_by words v m) js
 listing_inside words v (Some vs) js = tt
 listing_inside words v None js = mismatch_inside words v js
@@ -175,17 +173,18 @@ problem_inside : (v : Val) (m : Option Name) (js : List EjId) → Inside (thrown
 problem_inside v (Some problem) js = tt
 problem_inside v None js = mismatch_inside (codes "not a text") v js
 
-thrown_inside : (o : End) (js : List EjId) → Inside o js → Inside (thrown_end o) js
-thrown_inside (value v) js h = problem_inside v (text_in v) js
-thrown_inside (halt i) js h = h
-
 breaks_inside : (v : Val) (m : Option Name) (js : List EjId) → Inside (broken_by v m) js
 breaks_inside v (Some problem) js = tt
 breaks_inside v None js = mismatch_inside (codes "not a text") v js
 
-broken_inside : (o : End) (js : List EjId) → Inside o js → Inside (broken_end o) js
-broken_inside (value v) js h = breaks_inside v (text_in v) js
-broken_inside (halt i) js h = h
+made_inside : (q : Primitive) (here : VatNo) (v : Val) (js : List EjId) → Inside (made_of q here v) js
+made_inside primitives.Throw here v js = problem_inside v (text_in v) js
+made_inside primitives.BreakRef here v js = breaks_inside v (text_in v) js
+made_inside primitives.StateRef here v js = tt
+
+primitive_inside : (o : End) (here : VatNo) (q : Primitive) (js : List EjId) → Inside o js → Inside (primitive_end o here q) js
+primitive_inside (value v) here q js h = made_inside q here v js
+primitive_inside (halt i) here q js h = h
 
 placed_inside : (room : Bool) (a : At) (js : List EjId) → Inside (placed_end room a) js
 placed_inside true a js = tt
@@ -302,7 +301,7 @@ mutual
   runs_inside (run_same {a = a} {c = c} {v = v} {o = o} r u) = same_inside v o c a.opened (carried o (ends_opened r) (ends_inside u))
   runs_inside (run_define_list {ps = ps} {a = a} {b = b} {o = o} r) = parts_inside o (parts_of ps (datum_of o b)) a.opened (ends_inside r) (wanted_inside ps (datum_of o b) a.opened (datum_inside o b a.opened (ends_inside r)))
   runs_inside (run_hide q) = block_inside q
-  runs_inside (run_throw {a = a} {o = o} r) = thrown_inside o a.opened (needs_inside r)
+  runs_inside (run_primitive {q = q} {a = a} {o = o} r) = primitive_inside o a.vat q a.opened (needs_inside r)
   runs_inside (run_if_goes {p = p} r e q) = carried p (needs_opened r) (block_inside q)
   runs_inside (run_if_ends {a = a} {o = o} r e) = choice_carried a.opened e (tested_inside o a.opened (needs_inside r))
   runs_inside (run_while_again {p = p} r e q w) = carried p (block_opened q ∙ needs_opened r) (runs_inside w)
@@ -318,8 +317,6 @@ mutual
   runs_inside (run_when {body = body} {a = a} {b = b} {o = o} r) = when_inside body None o b a.opened (ends_inside r)
   runs_inside (run_when_catch {body = body} {p = p} {handler = handler} {a = a} {b = b} {o = o} r) = when_inside body (Some (record { pattern = p; block = handler })) o b a.opened (ends_inside r)
   runs_inside (run_new_promise {a = a}) = pair_inside (given_by (promise_pair a) a) a a.opened
-  runs_inside (run_break_ref {a = a} {o = o} r) = broken_inside o a.opened (needs_inside r)
-  runs_inside (run_state_ref {a = a} {o = o} r) = state_inside a.vat o a.opened (needs_inside r)
 
   pub needs_inside : {k : ℕ} {t : Tree} {a b : At} {o : End} → Needs k t a o b → Inside o a.opened
   needs_inside (needs {a = a} {b = b} {o = o} r) = datum_inside o b a.opened (ends_inside r)

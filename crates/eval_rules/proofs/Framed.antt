@@ -14,7 +14,7 @@ use Rattle.eval_rules.specs.At.{At}
 use Rattle.eval_rules.specs.Outcomes.{End, value, halt, Gather, values, halted, reply_end}
 use Rattle.eval_rules.specs.Rules.{reached, put, sought_in, seeking, slot_read, slot_put, noun_read, Listing, listed, unlisted, parts_of, parts_bound, matched_all, top_bind, found, sought, slot_in, sought_slot, held_end, noun_end, bound_in, defined, next_slot, has_room, slot_made, variable_made, declared, declared_end, assigned, assigned_end, matched, parts_end, gives, on_far, receiver, receiver_read, handled_names, when_capture, when_capturing, waited, waited_end, when_end, when_made}
 use Rattle.eval_rules.specs.Rules.{Capture, captured, missing, and_captured, all_captured, all_sought, capture_of, capturing, object_made, placed, placed_end, with_object, object_end, Callee, on_object, on_ejector, on_datum, callee_of, callee_target, callee_read, called, object_target, target_of, inside}
-use Rattle.eval_rules.specs.Rules.{Ends, at_budget, at_depth, at_node, Runs, run_null, run_bool, run_int, run_text, run_noun, run_define, run_variable, run_assign, run_call_receiver, run_call_gives, run_call_enters, run_call_uses, run_send_receiver, run_send, run_list, run_same_left, run_same, run_define_list, run_hide, run_throw, run_if_goes, run_if_ends, run_while_again, run_while_halts, run_while_done, run_while_ends, run_for, run_for_ends, run_try, run_try_caught, run_object, run_escape, run_when, run_when_catch, run_new_promise, run_break_ref, run_state_ref, Needs, needs, Args, args_none, args_next, args_halt, Items, items_none, items_next, items_halt, Block, in_block, Taking, in_taking, Each, each_none, each_next, each_halt}
+use Rattle.eval_rules.specs.Rules.{Ends, at_budget, at_depth, at_node, Runs, run_null, run_bool, run_int, run_text, run_noun, run_define, run_variable, run_assign, run_call_receiver, run_call_gives, run_call_enters, run_call_uses, run_send_receiver, run_send, run_list, run_same_left, run_same, run_define_list, run_hide, run_primitive, run_if_goes, run_if_ends, run_while_again, run_while_halts, run_while_done, run_while_ends, run_for, run_for_ends, run_try, run_try_caught, run_object, run_escape, run_when, run_when_catch, run_new_promise, Needs, needs, Args, args_none, args_next, args_halt, Items, items_none, items_next, items_halt, Block, in_block, Taking, in_taking, Each, each_none, each_next, each_halt}
 use Rattle.eval_rules.specs.Laws.{in_state, AgreeOn, with_cells, IsWithin}
 use Rattle.eval_rules.proofs.Reached.{defined_later, declared_later, assigned_later, parts_later, ends_later, runs_later, args_later, items_later, block_later, taking_later, each_later, read_later, slot_later, captures_later, object_later, called_later, callee_later, datum_later, same_later, sends_later, sent_later, waits_later, waited_later, when_later, pairs_later, resolvers_later}
 use Rattle.eval_rules.proofs.Steps.{runs_as, runs_to}
@@ -550,7 +550,7 @@ module _ (w : State) where
         let f = ends_framed r u (before u a.state (datum_later o b) l) in
         list_case k ps e o a b u f.after f.kept (agree_on u a.state f.after b.state f.kept l) (run_define_list {b = there f.after b} f.run)
     runs_framed (run_hide q) u m = let f = block_framed q u m in record { after = f.after; run = run_hide f.run; kept = f.kept }
-    runs_framed (run_throw r) u m = let f = needs_framed r u m in record { after = f.after; run = run_throw f.run; kept = f.kept }
+    runs_framed (run_primitive r) u m = let f = needs_framed r u m in record { after = f.after; run = run_primitive f.run; kept = f.kept }
     runs_framed (run_if_goes {a = a} {b = b} r e q) u m =
         let f = needs_framed r u (before u a.state (block_later q) m) in
         let g = block_framed q f.after (agree_on u a.state f.after b.state f.kept m) in
@@ -589,8 +589,6 @@ module _ (w : State) where
         let f = ends_framed r u (before u a.state (when_later body x o b) m) in
         when_case body x o a b u f.after f.kept (agree_on u a.state f.after b.state f.kept m) (run_when_catch {b = there f.after b} f.run)
     runs_framed (run_new_promise {k = k} {a = a}) u m = pair_case k a u m
-    runs_framed (run_break_ref r) u m = let f = needs_framed r u m in record { after = f.after; run = run_break_ref f.run; kept = f.kept }
-    runs_framed (run_state_ref r) u m = let f = needs_framed r u m in record { after = f.after; run = run_state_ref f.run; kept = f.kept }
 
     pub needs_framed : {k : ℕ} {t : Tree} {a b : At} {o : End} → Needs k t a o b → (u : State) → AgreeOn b.touched u a.state → NeedsFrame k t a o b u
     needs_framed (needs {a = a} {b = b} {o = o} r) u m =

@@ -11,7 +11,7 @@ use Rattle.eval_rules.specs.At.{At}
 use Rattle.eval_rules.specs.Outcomes.{End, value, halt, Gather}
 use Rattle.eval_rules.specs.Rules.{seeking, noun_read, slot_put, capturing, called, when_made}
 use Rattle.eval_rules.proofs.Seeking.{seeking_reads, noun_reads, captures_read}
-use Rattle.eval_rules.specs.Rules.{Listing, listed, unlisted, parts_of, parts_bound, again, bound_in, matched, matched_all, defined, next_slot, has_room, slot_made, variable_made, declared, assigned, Capture, captured, missing, capture_of, object_made, placed, with_object, leaving, escaped, sought_slot, Ends, at_budget, at_depth, at_node, Runs, run_null, run_bool, run_int, run_text, run_noun, run_define, run_variable, run_assign, run_call_receiver, run_call_gives, run_call_enters, run_call_uses, run_send_receiver, run_send, run_list, run_same_left, run_same, run_define_list, run_hide, run_throw, run_if_goes, run_if_ends, run_while_again, run_while_halts, run_while_done, run_while_ends, run_for, run_for_ends, run_try, run_try_caught, run_object, run_escape, run_when, run_when_catch, run_new_promise, run_break_ref, run_state_ref, Needs, needs, Args, args_none, args_next, args_halt, Items, items_none, items_next, items_halt, Block, in_block, Taking, in_taking, Each, each_none, each_next, each_halt}
+use Rattle.eval_rules.specs.Rules.{Listing, listed, unlisted, parts_of, parts_bound, again, bound_in, matched, matched_all, defined, next_slot, has_room, slot_made, variable_made, declared, assigned, Capture, captured, missing, capture_of, object_made, placed, with_object, leaving, escaped, sought_slot, Ends, at_budget, at_depth, at_node, Runs, run_null, run_bool, run_int, run_text, run_noun, run_define, run_variable, run_assign, run_call_receiver, run_call_gives, run_call_enters, run_call_uses, run_send_receiver, run_send, run_list, run_same_left, run_same, run_define_list, run_hide, run_primitive, run_if_goes, run_if_ends, run_while_again, run_while_halts, run_while_done, run_while_ends, run_for, run_for_ends, run_try, run_try_caught, run_object, run_escape, run_when, run_when_catch, run_new_promise, Needs, needs, Args, args_none, args_next, args_halt, Items, items_none, items_next, items_halt, Block, in_block, Taking, in_taking, Each, each_none, each_next, each_halt}
 use Rattle.eval_rules.specs.Doings.{next_object, has_object_room, datum_of, datum_read, given_by, behind, sent_at, same_read, promise_pair, pair_out, resolver_out}
 use Rattle.eval_rules.proofs.Doings.{datum_works, called_works, sent_works, when_works, pair_works, used_works, same_works}
 use Rattle.post.specs.Delivery.{Handler}
@@ -113,7 +113,7 @@ mutual
       let d = datum_read o b in
       both a d (parts_bound ps (parts_of ps (datum_of o b)) d) (both a b d (ends_grow r) (same b d (ap (λ b. b.nouns) (datum_works o b)))) (parts_grow ps (parts_of ps (datum_of o b)) d)
   runs_grow {a = a} {b = b} (run_hide q) = same a b (block_names q)
-  runs_grow (run_throw r) = needs_grow r
+  runs_grow (run_primitive r) = needs_grow r
   runs_grow (run_if_goes {a = a} {b = b} {d = d} r e q) = both a b d (needs_grow r) (same b d (block_names q))
   runs_grow (run_if_ends r e) = needs_grow r
   runs_grow (run_while_again {a = a} {d = d} {e = e} r f q w) = both a (again a d) e (same a (again a d) refl) (runs_grow w)
@@ -131,8 +131,6 @@ mutual
       let h : Option Handler = Some (record { pattern = p; block = handler }) in
       both a b (when_made body h o b) (ends_grow r) (same b (when_made body h o b) (ap (λ b. b.nouns) (when_works body h o b)))
   runs_grow (run_new_promise {a = a}) = same a (pair_out (given_by (promise_pair a) a) (behind (promise_pair a) a)) (ap (λ b. b.nouns) (pair_works a))
-  runs_grow (run_break_ref r) = needs_grow r
-  runs_grow (run_state_ref r) = needs_grow r
 
   pub needs_grow : {k : ℕ} {t : Tree} {a b : At} {o : End} → Needs k t a o b → Grown a b
   needs_grow (needs {a = a} {b = b} {o = o} r) = both a b (datum_read o b) (ends_grow r) (same b (datum_read o b) (ap (λ b. b.nouns) (datum_works o b)))

@@ -12,7 +12,7 @@ use Rattle.eval_rules.specs.At.{At}
 use Rattle.eval_rules.specs.Outcomes.{End, value, halt, Gather, values, halted}
 use Rattle.eval_rules.specs.Rules.{sought_in, seeking, slot_read, slot_put, noun_read, Listing, listed, unlisted, parts_of, parts_bound, entering, sought, sought_slot, bound_in, matched, matched_all, defined, next_slot, has_room, slot_made, variable_made, declared, assigned, Capture, captured, missing, and_captured, all_sought, capture_of, capturing, object_made, placed, with_object, Callee, on_object, on_ejector, on_datum, callee_of, callee_read, called, on_far, receiver, receiver_read, handled_names, when_capture, when_capturing, waited, when_made}
 use Rattle.eval_rules.specs.Laws.{IsWithinRoom}
-use Rattle.eval_rules.specs.Rules.{Ends, at_budget, at_depth, at_node, Runs, run_null, run_bool, run_int, run_text, run_noun, run_define, run_variable, run_assign, run_call_receiver, run_call_gives, run_call_enters, run_call_uses, run_send_receiver, run_send, run_list, run_same_left, run_same, run_define_list, run_hide, run_throw, run_if_goes, run_if_ends, run_while_again, run_while_halts, run_while_done, run_while_ends, run_for, run_for_ends, run_try, run_try_caught, run_object, run_escape, run_when, run_when_catch, run_new_promise, run_break_ref, run_state_ref, Needs, needs, Args, args_none, args_next, args_halt, Items, items_none, items_next, items_halt, Block, in_block, Taking, in_taking, Each, each_none, each_next, each_halt}
+use Rattle.eval_rules.specs.Rules.{Ends, at_budget, at_depth, at_node, Runs, run_null, run_bool, run_int, run_text, run_noun, run_define, run_variable, run_assign, run_call_receiver, run_call_gives, run_call_enters, run_call_uses, run_send_receiver, run_send, run_list, run_same_left, run_same, run_define_list, run_hide, run_primitive, run_if_goes, run_if_ends, run_while_again, run_while_halts, run_while_done, run_while_ends, run_for, run_for_ends, run_try, run_try_caught, run_object, run_escape, run_when, run_when_catch, run_new_promise, Needs, needs, Args, args_none, args_next, args_halt, Items, items_none, items_next, items_halt, Block, in_block, Taking, in_taking, Each, each_none, each_next, each_halt}
 use Rattle.eval_rules.specs.Doings.{next_object, has_object_room, under, behind, given_by, datum_of, datum_read, data_of, same_read, both_settled, next_message, next_promise, has_message_room, call_message, send_of, send_out, sent_at, when_message, wait_of, wait_out, promise_pair, pair_out, resolver_out}
 use Rattle.std.proofs.lemmas.List.{length_push}
 use Rattle.cells.specs.Doing.{over, reads, writes, Under, touching, holding, play, and_then}
@@ -254,7 +254,7 @@ module _ (P : Cells → Cells → State → ℕ → ℕ → ℕ → Type 0) (kep
     runs_kept (run_same {c = c} {v = v} {o = o} r u) h = same_kept v o c (ends_kept u (ends_kept r h))
     runs_kept (run_define_list {ps = ps} {b = b} {o = o} r) h = parts_kept ps (parts_of ps (datum_of o b)) (datum_read o b) (datum_kept o b (ends_kept r h))
     runs_kept (run_hide q) h = block_kept q h
-    runs_kept (run_throw r) h = needs_kept r h
+    runs_kept (run_primitive r) h = needs_kept r h
     runs_kept (run_if_goes r e q) h = block_kept q (needs_kept r h)
     runs_kept (run_if_ends r e) h = needs_kept r h
     runs_kept (run_while_again r e q w) h = runs_kept w (block_kept q (needs_kept r h))
@@ -270,8 +270,6 @@ module _ (P : Cells → Cells → State → ℕ → ℕ → ℕ → Type 0) (kep
     runs_kept (run_when {body = body} {b = b} {o = o} r) h = when_kept body None o b (ends_kept r h)
     runs_kept (run_when_catch {body = body} {p = p} {handler = handler} {b = b} {o = o} r) h = when_kept body (Some (record { pattern = p; block = handler })) o b (ends_kept r h)
     runs_kept (run_new_promise {a = a}) h = pair_kept a h
-    runs_kept (run_break_ref r) h = needs_kept r h
-    runs_kept (run_state_ref r) h = needs_kept r h
 
     pub needs_kept : {k : ℕ} {t : Tree} {a b : At} {o : End} → Needs k t a o b → HoldsAt a → HoldsAt b
     needs_kept (needs {b = b} {o = o} r) h = datum_kept o b (ends_kept r h)

@@ -13,11 +13,10 @@ use Rattle.post.specs.Delivery.{Handler, When}
 use Rattle.sends.specs.Vats.{Vat}
 use Rattle.sends.specs.Making.{Making, refused, makes, Sent, Published}
 use Rattle.eval_rules.specs.At.{At}
-use Rattle.eval_rules.specs.Outbox.{Outbox}
 use Rattle.eval_rules.specs.Outcomes.{End, value, halt, Gather, values, halted}
 use Rattle.eval_rules.specs.Rules.{seeking, slot_put, capturing, Callee, on_object, on_ejector, on_datum, on_far, callee_of, callee_read, receiver, receiver_read, called, handled_names, when_capture, when_capturing, waited, when_made}
 use Rattle.eval_rules.proofs.Seeking.{seeking_reads, noun_reads, captures_read}
-use Rattle.eval_rules.specs.Rules.{Listing, listed, unlisted, parts_of, parts_bound, entering, bound_in, matched, matched_all, defined, next_slot, has_room, slot_made, variable_made, declared, assigned, Capture, captured, missing, capture_of, object_made, placed, with_object, sought_slot, Ends, at_budget, at_depth, at_node, Runs, run_null, run_bool, run_int, run_text, run_noun, run_define, run_variable, run_assign, run_call_receiver, run_call_gives, run_call_enters, run_call_uses, run_send_receiver, run_send, run_list, run_same_left, run_same, run_define_list, run_hide, run_throw, run_if_goes, run_if_ends, run_while_again, run_while_halts, run_while_done, run_while_ends, run_for, run_for_ends, run_try, run_try_caught, run_object, run_escape, run_when, run_when_catch, run_new_promise, run_break_ref, run_state_ref, Needs, needs, Args, args_none, args_next, args_halt, Items, items_none, items_next, items_halt, Block, in_block, Taking, in_taking, Each, each_none, each_next, each_halt}
+use Rattle.eval_rules.specs.Rules.{Listing, listed, unlisted, parts_of, parts_bound, entering, bound_in, matched, matched_all, defined, next_slot, has_room, slot_made, variable_made, declared, assigned, Capture, captured, missing, capture_of, object_made, placed, with_object, sought_slot, Ends, at_budget, at_depth, at_node, Runs, run_null, run_bool, run_int, run_text, run_noun, run_define, run_variable, run_assign, run_call_receiver, run_call_gives, run_call_enters, run_call_uses, run_send_receiver, run_send, run_list, run_same_left, run_same, run_define_list, run_hide, run_primitive, run_if_goes, run_if_ends, run_while_again, run_while_halts, run_while_done, run_while_ends, run_for, run_for_ends, run_try, run_try_caught, run_object, run_escape, run_when, run_when_catch, run_new_promise, Needs, needs, Args, args_none, args_next, args_halt, Items, items_none, items_next, items_halt, Block, in_block, Taking, in_taking, Each, each_none, each_next, each_halt}
 use Rattle.eval_rules.specs.Doings.{next_object, has_object_room, behind, given_by, datum_of, datum_read, send_of, send_out, sent_at, wait_of, wait_out, promise_pair, pair_out, resolver_out, same_read}
 use Rattle.eval_rules.proofs.Doings.{datum_works, called_works, sent_works, when_works, pair_works, used_works, same_works}
 use Rattle.eval_rules.proofs.Spent.{defined_left, parts_left, declared_left, assigned_left, object_left, matched_left}
@@ -152,7 +151,7 @@ mutual
       let l : Listing = parts_of ps (datum_of o b) in
       omega (arith, ends_paid r, ap (λ b. b.left) (datum_works o b), ap (λ y. y.promises) (datum_out o b), parts_left ps l (datum_read o b), ap (λ y. y.promises) (parts_out ps l (datum_read o b)))
   runs_paid (run_hide q) = omega (arith, block_paid q)
-  runs_paid (run_throw r) = omega (arith, needs_paid r)
+  runs_paid (run_primitive r) = omega (arith, needs_paid r)
   runs_paid (run_if_goes r e q) = omega (arith, needs_paid r, block_paid q)
   runs_paid (run_if_ends r e) = omega (arith, needs_paid r)
   runs_paid (run_while_again r e q w) = omega (arith, needs_paid r, block_paid q, runs_paid w)
@@ -172,8 +171,6 @@ mutual
       let m : Option Handler = Some (record { pattern = p; block = handler }) in
       omega (arith, ends_paid r, ap (λ b. b.left) (when_works body m o b), when_promises body m o b)
   runs_paid (run_new_promise {a = a}) = omega (arith, ap (λ b. b.left) (pair_works a), pair_promises (given_by (promise_pair a) a) (promise_pair a) a)
-  runs_paid (run_break_ref r) = omega (arith, needs_paid r)
-  runs_paid (run_state_ref r) = omega (arith, needs_paid r)
 
   needs_paid : {k : ℕ} {t : Tree} {a b : At} {o : End} → Needs k t a o b → b.out.promises + b.left ≤ a.out.promises + a.left
   needs_paid (needs {b = b} {o = o} r) = omega (arith, ends_paid r, ap (λ b. b.left) (datum_works o b), ap (λ y. y.promises) (datum_out o b))

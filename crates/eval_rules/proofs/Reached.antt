@@ -12,7 +12,7 @@ use Rattle.heap.specs.State.{Bind, fixed, slot, lookup, Plain, Cell, top, slot_c
 use Rattle.eval_rules.specs.At.{At}
 use Rattle.eval_rules.specs.Outcomes.{End, value, halt, Gather, values, halted}
 use Rattle.eval_rules.specs.Rules.{sought_in, seeking, slot_read, slot_put, noun_read, Listing, listed, unlisted, parts_of, parts_bound, entering, sought, sought_slot, bound_in, matched, matched_all, defined, next_slot, has_room, slot_made, variable_made, declared, assigned, Capture, captured, missing, and_captured, all_sought, capture_of, capturing, object_made, placed, with_object, Callee, on_object, on_ejector, on_datum, callee_of, callee_read, called, on_far, receiver, receiver_read, handled_names, when_capture, when_capturing, waited, when_made}
-use Rattle.eval_rules.specs.Rules.{Ends, at_budget, at_depth, at_node, Runs, run_null, run_bool, run_int, run_text, run_noun, run_define, run_variable, run_assign, run_call_receiver, run_call_gives, run_call_enters, run_call_uses, run_send_receiver, run_send, run_list, run_same_left, run_same, run_define_list, run_hide, run_throw, run_if_goes, run_if_ends, run_while_again, run_while_halts, run_while_done, run_while_ends, run_for, run_for_ends, run_try, run_try_caught, run_object, run_escape, run_when, run_when_catch, run_new_promise, run_break_ref, run_state_ref, Needs, needs, Args, args_none, args_next, args_halt, Items, items_none, items_next, items_halt, Block, in_block, Taking, in_taking, Each, each_none, each_next, each_halt}
+use Rattle.eval_rules.specs.Rules.{Ends, at_budget, at_depth, at_node, Runs, run_null, run_bool, run_int, run_text, run_noun, run_define, run_variable, run_assign, run_call_receiver, run_call_gives, run_call_enters, run_call_uses, run_send_receiver, run_send, run_list, run_same_left, run_same, run_define_list, run_hide, run_primitive, run_if_goes, run_if_ends, run_while_again, run_while_halts, run_while_done, run_while_ends, run_for, run_for_ends, run_try, run_try_caught, run_object, run_escape, run_when, run_when_catch, run_new_promise, Needs, needs, Args, args_none, args_next, args_halt, Items, items_none, items_next, items_halt, Block, in_block, Taking, in_taking, Each, each_none, each_next, each_halt}
 use Rattle.eval_rules.specs.Doings.{next_object, has_object_room, behind, given_by, datum_of, datum_read, same_read, both_settled, send_of, send_out, sent_at, wait_of, wait_out, promise_pair, pair_out, resolver_out, data_of}
 use Rattle.eval_rules.proofs.Doings.{Onward, Later, does_later}
 use Rattle.sends.specs.Vats.{Vat, ended}
@@ -202,7 +202,7 @@ mutual
   runs_later (run_same {c = c} {v = v} {o = o} r u) = then (then (ends_later r) (ends_later u)) (same_later v o c)
   runs_later (run_define_list {ps = ps} {b = b} {o = o} r) = then (then (ends_later r) (datum_later o b)) (parts_later ps (parts_of ps (datum_of o b)) (datum_read o b))
   runs_later (run_hide q) = block_later q
-  runs_later (run_throw r) = needs_later r
+  runs_later (run_primitive r) = needs_later r
   runs_later (run_if_goes r e q) = then (needs_later r) (block_later q)
   runs_later (run_if_ends r e) = needs_later r
   runs_later (run_while_again r e q w) = then (then (needs_later r) (block_later q)) (runs_later w)
@@ -218,8 +218,6 @@ mutual
   runs_later (run_when {body = body} {b = b} {o = o} r) = then (ends_later r) (when_later body None o b)
   runs_later (run_when_catch {body = body} {p = p} {handler = handler} {b = b} {o = o} r) = then (ends_later r) (when_later body (Some (record { pattern = p; block = handler })) o b)
   runs_later (run_new_promise {a = a}) = pair_later a
-  runs_later (run_break_ref r) = needs_later r
-  runs_later (run_state_ref r) = needs_later r
 
   pub needs_later : {k : ℕ} {t : Tree} {a b : At} {o : End} → Needs k t a o b → Later a b
   needs_later (needs {b = b} {o = o} r) = then (ends_later r) (datum_later o b)

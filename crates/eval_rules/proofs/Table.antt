@@ -30,7 +30,7 @@ use Rattle.eval_rules.specs.At.{At}
 use Rattle.eval_rules.specs.Doings.{under, given_by, behind, datum_of, datum_read, data_with, data_of, next_message, next_promise, has_message_room, next_object, has_object_room, send_of, send_out, sent_at, wait_of, wait_out, promise_pair, pair_out, resolver_out, both_settled, same_read}
 use Rattle.eval_rules.specs.Outcomes.{End, value, halt, Gather, values, halted}
 use Rattle.eval_rules.specs.Rules.{sought, sought_slot, sought_in, seeking, slot_read, noun_read, slot_put, assigned, bound_in, matched, matched_all, as_many, defined, next_slot, has_room, slot_made, variable_made, declared, taken, Listing, listed, unlisted, listing_by, parts_of, parts_bound, Capture, captured, missing, and_captured, all_sought, capture_of, capturing, object_made, placed, with_object, handled_names, when_capture, when_capturing, waited, when_made, Target, gives, enters, uses, method_in, method_target, resolver_target, object_target, no_such_method, Callee, on_object, on_ejector, on_datum, on_far, callee_of, callee_target, callee_read, receiver, receiver_read, target_of, called, entering}
-use Rattle.eval_rules.specs.Rules.{Ends, at_budget, at_depth, at_node, Runs, run_null, run_bool, run_int, run_text, run_noun, run_define, run_variable, run_assign, run_call_receiver, run_call_gives, run_call_enters, run_call_uses, run_send_receiver, run_send, run_list, run_same_left, run_same, run_define_list, run_hide, run_throw, run_if_goes, run_if_ends, run_while_again, run_while_halts, run_while_done, run_while_ends, run_for, run_for_ends, run_try, run_try_caught, run_object, run_escape, run_when, run_when_catch, run_new_promise, run_break_ref, run_state_ref, Needs, needs, Args, args_none, args_next, args_halt, Items, items_none, items_next, items_halt, Block, in_block, Taking, in_taking, Each, each_none, each_next, each_halt}
+use Rattle.eval_rules.specs.Rules.{Ends, at_budget, at_depth, at_node, Runs, run_null, run_bool, run_int, run_text, run_noun, run_define, run_variable, run_assign, run_call_receiver, run_call_gives, run_call_enters, run_call_uses, run_send_receiver, run_send, run_list, run_same_left, run_same, run_define_list, run_hide, run_primitive, run_if_goes, run_if_ends, run_while_again, run_while_halts, run_while_done, run_while_ends, run_for, run_for_ends, run_try, run_try_caught, run_object, run_escape, run_when, run_when_catch, run_new_promise, Needs, needs, Args, args_none, args_next, args_halt, Items, items_none, items_next, items_halt, Block, in_block, Taking, in_taking, Each, each_none, each_next, each_halt}
 use Rattle.eval_rules.specs.Table.{Leads, views_at, of_value, of_values, of_listed, of_captured, top_of, name_sought, noun_evaluated, noun_assigned, name_bound, pattern_bound, variable_touches, names_captured, object_touches, data_touches, callee_touches, call_touches, resolver_touches, same_touches, when_made_touches, foot, foot_below, foot_of_datum, foot_of_args, foot_of_items, foot_of_block, foot_of_taking, foot_of_each}
 use Rattle.eval_rules.proofs.Seeking.{Reads, reads_both, seeking_reads, captures_read}
 
@@ -386,7 +386,7 @@ mutual
   runs_foot (run_same {c = c} {v = v} {o = o} r u) = onto (ends_foot r) (onto (ends_foot u) (same_foot v o c))
   runs_foot (run_define_list {ps = ps} {b = b} {o = o} r) = onto (ends_foot r) (list_foot ps o b)
   runs_foot (run_hide q) = block_foot q
-  runs_foot (run_throw r) = needs_foot r
+  runs_foot (run_primitive r) = needs_foot r
   runs_foot (run_if_goes r e q) = onto (needs_foot r) (block_foot q)
   runs_foot (run_if_ends r e) = needs_foot r
   runs_foot (run_while_again r e q w) = onto (needs_foot r) (onto (block_foot q) (runs_foot w))
@@ -402,8 +402,6 @@ mutual
   runs_foot (run_when {body = body} {b = b} {o = o} r) = onto (ends_foot r) (when_foot body None o b)
   runs_foot (run_when_catch {body = body} {p = p} {handler = handler} {b = b} {o = o} r) = onto (ends_foot r) (when_foot body (Some (record { pattern = p; block = handler })) o b)
   runs_foot (run_new_promise {a = a}) = pair_foot a
-  runs_foot (run_break_ref r) = needs_foot r
-  runs_foot (run_state_ref r) = needs_foot r
 
   pub needs_foot : {k : ℕ} {t : Tree} {a b : At} {o : End} (r : Needs k t a o b) → Leads (foot_of_datum r) a b
   needs_foot (needs {b = b} {o = o} r) = onto (ends_foot r) (datum_foot o b)

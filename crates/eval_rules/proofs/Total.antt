@@ -2,13 +2,13 @@
 use Rattle.std.proofs.Common.{◌≡◌, ℕ, zero, suc, ◌+◌, ◌<◌, ◌≤◌, ◌⊎◌, inl, inr, Option, Some, None, true, false, refl, ap, arith}
 use Rattle.std.proofs.lemmas.Bool.{cases_lt}
 use Rattle.std.proofs.Math.Nat.{eq-or-lt_of_le}
-use Rattle.kernele.specs.Tree.{Name, Tree, null_tree, bool_tree, int_tree, text_tree, noun, define, variable, assign, call, list_tree, same_tree, define_list, hide, if_tree, while_tree, for_tree, try_tree, throw_tree, object_tree, escape_tree, Trees, none, and_then, send, when_tree, when_catch_tree, new_promise, break_ref, state_ref}
+use Rattle.kernele.specs.Tree.{Name, Tree, null_tree, bool_tree, int_tree, text_tree, noun, define, variable, assign, call, list_tree, same_tree, define_list, hide, if_tree, while_tree, for_tree, try_tree, primitive, object_tree, escape_tree, Trees, none, and_then, send, when_tree, when_catch_tree, new_promise}
 use Rattle.kernele.specs.declared.tree.Pattern.{Pattern}
 use Rattle.kernele.specs.declared.tree.Pattern.TheVariants as pattern
 use Rattle.values.specs.Data.{Val, null, text, ejector, Vals, no_vals, and_val}
 use Rattle.eval_rules.specs.At.{At}
 use Rattle.eval_rules.specs.Outcomes.{End, value, halt, Gather}
-use Rattle.eval_rules.specs.Rules.{begun, Listing, listed, unlisted, listing_of, Choice, goes, ends, choice_of, chosen, caught, entering, matched, again, inside, Target, gives, enters, target_of, called, next_ejector, escaping, Ends, at_budget, at_depth, at_node, Runs, run_null, run_bool, run_int, run_text, run_noun, run_define, run_variable, run_assign, run_call_receiver, run_call_gives, run_call_enters, run_call_uses, run_send_receiver, run_send, run_list, run_same_left, run_same, run_define_list, run_hide, run_throw, run_if_goes, run_if_ends, run_while_again, run_while_halts, run_while_done, run_while_ends, run_for, run_for_ends, run_try, run_try_caught, run_object, run_escape, run_when, run_when_catch, run_new_promise, run_break_ref, run_state_ref, Needs, needs, Args, args_none, args_next, args_halt, Items, items_none, items_next, items_halt, Block, in_block, Taking, in_taking, Each, each_none, each_next, each_halt, uses}
+use Rattle.eval_rules.specs.Rules.{begun, Listing, listed, unlisted, listing_of, Choice, goes, ends, choice_of, chosen, caught, entering, matched, again, inside, Target, gives, enters, target_of, called, next_ejector, escaping, Ends, at_budget, at_depth, at_node, Runs, run_null, run_bool, run_int, run_text, run_noun, run_define, run_variable, run_assign, run_call_receiver, run_call_gives, run_call_enters, run_call_uses, run_send_receiver, run_send, run_list, run_same_left, run_same, run_define_list, run_hide, run_primitive, run_if_goes, run_if_ends, run_while_again, run_while_halts, run_while_done, run_while_ends, run_for, run_for_ends, run_try, run_try_caught, run_object, run_escape, run_when, run_when_catch, run_new_promise, Needs, needs, Args, args_none, args_next, args_halt, Items, items_none, items_next, items_halt, Block, in_block, Taking, in_taking, Each, each_none, each_next, each_halt, uses}
 use Rattle.eval_rules.proofs.Spent.{matched_left, ends_left, args_left, block_left, taking_left, needs_left, condition_less}
 use Rattle.eval_rules.proofs.Doings.{called_works}
 
@@ -138,15 +138,13 @@ module _ (n : ℕ) (fewer : Fewer n) where
   tree_runs k (while_tree c body) a h = let e = datum_end (k + 1) c a h in while_end k c body a e.place e.end (choice_of e.end) h e.run refl
   tree_runs k (for_tree p e body) a h = let f = datum_end (k + 1) e a h in for_end k p e body a f.place f.end (listing_of f.end) h f.run refl
   tree_runs k (try_tree body p handler) a h = let q = block_end (k + 1) body a h in try_end k body p handler a q.place q.end (caught q.end) h q.run refl
-  tree_runs k (throw_tree e) a h = let r = datum_end (k + 1) e a h in record { end = _; place = _; run = run_throw r.run }
+  tree_runs k (primitive q e) a h = let r = datum_end (k + 1) e a h in record { end = _; place = _; run = run_primitive r.run }
   tree_runs k (object_tree p ms) a h = record { end = _; place = _; run = run_object }
   tree_runs k (escape_tree x body) a h = let r = taking_end (k + 1) (pattern.Name x) (ejector (next_ejector a)) body (escaping a) h in record { end = _; place = _; run = run_escape r.run }
   tree_runs k (send r verb args) a h = let e = tree_end (k + 1) r a h in send_end k r verb args a e.place e.end h e.run
   tree_runs k (when_tree e body) a h = let r = tree_end (k + 1) e a h in record { end = _; place = _; run = run_when r.run }
   tree_runs k (when_catch_tree e body p handler) a h = let r = tree_end (k + 1) e a h in record { end = _; place = _; run = run_when_catch r.run }
   tree_runs k new_promise a h = record { end = _; place = _; run = run_new_promise }
-  tree_runs k (break_ref e) a h = let r = datum_end (k + 1) e a h in record { end = _; place = _; run = run_break_ref r.run }
-  tree_runs k (state_ref e) a h = let r = datum_end (k + 1) e a h in record { end = _; place = _; run = run_state_ref r.run }
 
 fewer_run : (n : ℕ) → Fewer n
 fewer_run zero k t a h = absurd (omega arith)

@@ -5,7 +5,7 @@ use Rattle.kernele.specs.declared.tree.Pattern.{Pattern}
 use Rattle.values.specs.Data.{Val, Vals}
 use Rattle.eval_rules.specs.At.{At}
 use Rattle.eval_rules.specs.Outcomes.{End, Gather}
-use Rattle.eval_rules.specs.Rules.{Ends, at_budget, at_depth, at_node, Runs, run_null, run_bool, run_int, run_text, run_noun, run_define, run_variable, run_assign, run_call_receiver, run_call_gives, run_call_enters, run_call_uses, run_send_receiver, run_send, run_list, run_same_left, run_same, run_define_list, run_hide, run_throw, run_if_goes, run_if_ends, run_while_again, run_while_halts, run_while_done, run_while_ends, run_for, run_for_ends, run_try, run_try_caught, run_object, run_escape, run_when, run_when_catch, run_new_promise, run_break_ref, run_state_ref, Needs, needs, Args, args_none, args_next, args_halt, Items, items_none, items_next, items_halt, Block, in_block, Taking, in_taking, Each, each_none, each_next, each_halt}
+use Rattle.eval_rules.specs.Rules.{Ends, at_budget, at_depth, at_node, Runs, run_null, run_bool, run_int, run_text, run_noun, run_define, run_variable, run_assign, run_call_receiver, run_call_gives, run_call_enters, run_call_uses, run_send_receiver, run_send, run_list, run_same_left, run_same, run_define_list, run_hide, run_primitive, run_if_goes, run_if_ends, run_while_again, run_while_halts, run_while_done, run_while_ends, run_for, run_for_ends, run_try, run_try_caught, run_object, run_escape, run_when, run_when_catch, run_new_promise, Needs, needs, Args, args_none, args_next, args_halt, Items, items_none, items_next, items_halt, Block, in_block, Taking, in_taking, Each, each_none, each_next, each_halt}
 
 abbrev mutual
   -- how many nodes begin: a tree without a step left does not, and one at too deep a level does
@@ -35,7 +35,7 @@ abbrev mutual
   nodes_below (run_same r u) = nodes r + nodes u
   nodes_below (run_define_list r) = nodes r
   nodes_below (run_hide q) = nodes_of_block q
-  nodes_below (run_throw r) = nodes_of_datum r
+  nodes_below (run_primitive r) = nodes_of_datum r
   nodes_below (run_if_goes r e q) = nodes_of_datum r + nodes_of_block q
   nodes_below (run_if_ends r e) = nodes_of_datum r
   nodes_below (run_while_again r e q w) = nodes_of_datum r + nodes_of_block q + nodes_below w
@@ -51,8 +51,6 @@ abbrev mutual
   nodes_below (run_when r) = nodes r
   nodes_below (run_when_catch r) = nodes r
   nodes_below run_new_promise = 0
-  nodes_below (run_break_ref r) = nodes_of_datum r
-  nodes_below (run_state_ref r) = nodes_of_datum r
 
   pub nodes_of_datum : {k : ℕ} {t : Tree} {a b : At} {o : End} → Needs k t a o b → ℕ
   nodes_of_datum (needs r) = nodes r
@@ -106,7 +104,7 @@ abbrev mutual
   deepest_below (run_same r u) = max (deepest r) (deepest u)
   deepest_below (run_define_list r) = deepest r
   deepest_below (run_hide q) = deepest_of_block q
-  deepest_below (run_throw r) = deepest_of_datum r
+  deepest_below (run_primitive r) = deepest_of_datum r
   deepest_below (run_if_goes r e q) = max (deepest_of_datum r) (deepest_of_block q)
   deepest_below (run_if_ends r e) = deepest_of_datum r
   deepest_below (run_while_again r e q w) = max (max (deepest_of_datum r) (deepest_of_block q)) (deepest_below w)
@@ -122,8 +120,6 @@ abbrev mutual
   deepest_below (run_when r) = deepest r
   deepest_below (run_when_catch r) = deepest r
   deepest_below run_new_promise = 0
-  deepest_below (run_break_ref r) = deepest_of_datum r
-  deepest_below (run_state_ref r) = deepest_of_datum r
 
   pub deepest_of_datum : {k : ℕ} {t : Tree} {a b : At} {o : End} → Needs k t a o b → ℕ
   deepest_of_datum (needs r) = deepest r

@@ -8,18 +8,21 @@ use Rattle.ids.specs.declared.names.SlotId.{SlotId}
 use Rattle.ids.specs.declared.names.ObjId.{ObjId}
 use Rattle.ids.specs.declared.names.EjId.{EjId}
 use Rattle.ids.specs.declared.names.PromId.{PromId}
-use Rattle.kernele.specs.Tree.{Name, Tree, null_tree, bool_tree, int_tree, text_tree, noun, define, variable, assign, call, list_tree, same_tree, define_list, hide, if_tree, while_tree, for_tree, try_tree, throw_tree, object_tree, escape_tree, send, when_tree, when_catch_tree, new_promise, break_ref, state_ref, Trees, none, and_then, Methods, no_methods, and_method}
+use Rattle.kernele.specs.Tree.{Name, Tree, null_tree, bool_tree, int_tree, text_tree, noun, define, variable, assign, call, list_tree, same_tree, define_list, hide, if_tree, while_tree, for_tree, try_tree, primitive, object_tree, escape_tree, send, when_tree, when_catch_tree, new_promise, Trees, none, and_then, Methods, no_methods, and_method}
 use Rattle.kernele_scopes.specs.Free.{captures, when_captures}
 use Rattle.kernele.specs.declared.tree.Pattern.{Pattern}
 use Rattle.kernele.specs.declared.tree.Pattern.TheVariants as pattern
+use Rattle.kernele.specs.declared.tree.Primitive.{Primitive}
+use Rattle.kernele.specs.declared.tree.Primitive.TheVariants as primitives
 use Rattle.values.specs.Data.{Val, null, bool, int, text, broken, object, ejector, promise, Vals, no_vals, and_val}
 use Rattle.values.specs.Replies.{no_method, list_reply, text_reply, text_in, items_in}
 use Rattle.heap.specs.State.{Bind, fixed, slot, Nouns, lookup, Plain, plain, resolver, top, slot_cell, object_cell, Cell, Content, bound, held, made, State, read, write, also}
 use Rattle.post.specs.Delivery.{Handler}
+use Rattle.refs.specs.Kinds.{kind_in}
 use Rattle.sends.specs.Vats.{Vat, ended}
 use Rattle.sends.specs.Making.{Making, Published, resolving, smashing}
 use Rattle.eval_rules.specs.At.{At}
-use Rattle.eval_rules.specs.Doings.{given_by, behind, datum_of, datum_read, data_of, same_vat, next_object, has_object_room, sent_end, sent_at, wait_of, wait_end, wait_out, promise_pair, pair_end, pair_out, resolver_end, resolver_out, same_end, same_read, state_end}
+use Rattle.eval_rules.specs.Doings.{given_by, behind, datum_of, datum_read, data_of, same_vat, next_object, has_object_room, sent_end, sent_at, wait_of, wait_end, wait_out, promise_pair, pair_end, pair_out, resolver_end, resolver_out, same_end, same_read, state_word}
 use Rattle.eval_rules.specs.Outcomes.{budget_spent, too_deep, too_large, Halt, thrown, ejected, abandoned, End, value, halt, Gather, values, halted, reply_end}
 use Rattle.eval_rules.specs.declared.working.TheConstants.{DEEPEST, MAX_SLOTS}
 
@@ -501,6 +504,16 @@ abbrev pub broken_end : End → End
 broken_end (value v) = broken_by v (text_in v)
 broken_end (halt h) = halt h
 
+-- what a primitive makes of a value in a vat
+abbrev pub made_of : Primitive → VatNo → Val → End
+made_of primitives.Throw here v = thrown_by v (text_in v)
+made_of primitives.BreakRef here v = broken_by v (text_in v)
+made_of primitives.StateRef here v = value (text (state_word (kind_in here v)))
+
+abbrev pub primitive_end : End → VatNo → Primitive → End
+primitive_end (value v) here q = made_of q here v
+primitive_end (halt h) here q = halt h
+
 mutual
   -- at level k, a tree begun at a ends as o at b: the budget is tested, a step is taken, then the level is tested
   pub data Ends : ℕ → Tree → At → End → At → Type 0 where
@@ -529,7 +542,7 @@ mutual
     run_same : {k : ℕ} {l r : Tree} {a b c : At} {v : Val} {o : End} → Ends (k + 1) l a (value v) b → Ends (k + 1) r b o c → Runs k (same_tree l r) a (same_end v o c) (same_read v o c)
     run_define_list : {k : ℕ} {ps : List Pattern} {e : Tree} {a b : At} {o : End} → Ends (k + 1) e a o b → Runs k (define_list ps e) a (parts_end o (parts_of ps (datum_of o b))) (parts_bound ps (parts_of ps (datum_of o b)) (datum_read o b))
     run_hide : {k : ℕ} {ts : Trees} {a b : At} {o : End} → Block (k + 1) ts a o b → Runs k (hide ts) a o b
-    run_throw : {k : ℕ} {e : Tree} {a b : At} {o : End} → Needs (k + 1) e a o b → Runs k (throw_tree e) a (thrown_end o) b
+    run_primitive : {k : ℕ} {q : Primitive} {e : Tree} {a b : At} {o : End} → Needs (k + 1) e a o b → Runs k (primitive q e) a (primitive_end o a.vat q) b
     run_if_goes : {k : ℕ} {c : Tree} {first second : Trees} {a b d : At} {o p : End} {q : Bool} → Needs (k + 1) c a o b → choice_of o ≡ goes q → Block (k + 1) (chosen q first second) b p d → Runs k (if_tree c first second) a p d
     run_if_ends : {k : ℕ} {c : Tree} {first second : Trees} {a b : At} {o p : End} → Needs (k + 1) c a o b → choice_of o ≡ ends p → Runs k (if_tree c first second) a p b
     run_while_again : {k : ℕ} {c : Tree} {body : Trees} {a b d e : At} {o p : End} {v : Val} → Needs (k + 1) c a o b → choice_of o ≡ goes true → Block (k + 1) body b (value v) d → Runs k (while_tree c body) (again a d) p e → Runs k (while_tree c body) a p e
@@ -546,8 +559,6 @@ mutual
     run_when_catch : {k : ℕ} {e : Tree} {body : Trees} {p : Pattern} {handler : Trees} {a b : At} {o : End} → Ends (k + 1) e a o b
         → Runs k (when_catch_tree e body p handler) a (when_end body (Some (record { pattern = p; block = handler })) o b) (when_made body (Some (record { pattern = p; block = handler })) o b)
     run_new_promise : {k : ℕ} {a : At} → Runs k new_promise a (pair_end (given_by (promise_pair a) a) a) (pair_out (given_by (promise_pair a) a) (behind (promise_pair a) a))
-    run_break_ref : {k : ℕ} {e : Tree} {a b : At} {o : End} → Needs (k + 1) e a o b → Runs k (break_ref e) a (broken_end o) b
-    run_state_ref : {k : ℕ} {e : Tree} {a b : At} {o : End} → Needs (k + 1) e a o b → Runs k (state_ref e) a (state_end a.vat o) b
 
   -- the same where a datum is wanted: the end in the vat of the value that the tree gives
   pub data Needs : ℕ → Tree → At → End → At → Type 0 where

@@ -19,7 +19,7 @@ use Rattle.eval_rules.specs.At.{At}
 use Rattle.eval_rules.specs.Doings.{under, given_by, datum_of, next_promise, has_message_room, next_object, has_object_room, send_of}
 use Rattle.eval_rules.specs.Outcomes.{End, value, halt, Gather, values, halted}
 use Rattle.eval_rules.specs.Rules.{sought, sought_slot, next_slot, has_room, Listing, listed, unlisted, parts_of, Capture, captured, missing, capture_of, handled_names, when_capture, Callee, on_object, on_ejector, on_datum, on_far, callee_of, called}
-use Rattle.eval_rules.specs.Rules.{Ends, at_budget, at_depth, at_node, Runs, run_null, run_bool, run_int, run_text, run_noun, run_define, run_variable, run_assign, run_call_receiver, run_call_gives, run_call_enters, run_call_uses, run_send_receiver, run_send, run_list, run_same_left, run_same, run_define_list, run_hide, run_throw, run_if_goes, run_if_ends, run_while_again, run_while_halts, run_while_done, run_while_ends, run_for, run_for_ends, run_try, run_try_caught, run_object, run_escape, run_when, run_when_catch, run_new_promise, run_break_ref, run_state_ref, Needs, needs, Args, args_none, args_next, args_halt, Items, items_none, items_next, items_halt, Block, in_block, Taking, in_taking, Each, each_none, each_next, each_halt}
+use Rattle.eval_rules.specs.Rules.{Ends, at_budget, at_depth, at_node, Runs, run_null, run_bool, run_int, run_text, run_noun, run_define, run_variable, run_assign, run_call_receiver, run_call_gives, run_call_enters, run_call_uses, run_send_receiver, run_send, run_list, run_same_left, run_same, run_define_list, run_hide, run_primitive, run_if_goes, run_if_ends, run_while_again, run_while_halts, run_while_done, run_while_ends, run_for, run_for_ends, run_try, run_try_caught, run_object, run_escape, run_when, run_when_catch, run_new_promise, Needs, needs, Args, args_none, args_next, args_halt, Items, items_none, items_next, items_halt, Block, in_block, Taking, in_taking, Each, each_none, each_next, each_halt}
 
 -- from one place to another just the cells of a foot were touched, beside what was touched before, and just those were written
 abbrev pub Leads : Foot → At → At → Type 0
@@ -155,7 +155,7 @@ abbrev mutual
   foot_below (run_same {c = c} {v = v} {o = o} r u) = both (foot r) (both (foot u) (of_value (same_touches (views_at c) v) o))
   foot_below (run_define_list {ps = ps} {b = b} {o = o} r) = both (foot r) (both (of_value (end_taken (views_at b)) o) (of_listed (of_each (pattern_bound b.own_scope) ps) (parts_of ps (datum_of o b))))
   foot_below (run_hide q) = foot_of_block q
-  foot_below (run_throw r) = foot_of_datum r
+  foot_below (run_primitive r) = foot_of_datum r
   foot_below (run_if_goes r e q) = both (foot_of_datum r) (foot_of_block q)
   foot_below (run_if_ends r e) = foot_of_datum r
   foot_below (run_while_again r e q w) = both (foot_of_datum r) (both (foot_of_block q) (foot_below w))
@@ -171,8 +171,6 @@ abbrev mutual
   foot_below (run_when {body = body} {b = b} {o = o} r) = both (foot r) (of_value (λ v. when_made_touches body None v b) o)
   foot_below (run_when_catch {body = body} {p = p} {handler = handler} {b = b} {o = o} r) = both (foot r) (of_value (λ v. when_made_touches body (Some (record { pattern = p; block = handler })) v b) o)
   foot_below (run_new_promise {a = a}) = pair_touches a.state (has_object_room a) (next_promise a a.vat) (next_object a)
-  foot_below (run_break_ref r) = foot_of_datum r
-  foot_below (run_state_ref r) = foot_of_datum r
 
   -- where a datum is wanted, the end of the value is taken
   pub foot_of_datum : {k : ℕ} {t : Tree} {a b : At} {o : End} → Needs k t a o b → Foot

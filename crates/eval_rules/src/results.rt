@@ -2,8 +2,8 @@
 ghost use Rattle.std.specs.Prelude.{◌≡◌};
 ghost use Rattle.values.specs.Replies.{text_reply, list_reply, data_reply};
 ghost use Rattle.values.specs.View.{val_of, vals_of, reply_of};
-ghost use Rattle.eval_rules.specs.Answered.{OnEnd, OnStop};
-ghost use Rattle.eval_rules.specs.Outcomes.{End as Ending, halt, reply_end};
+ghost use Rattle.eval_rules.specs.Answered.{OnEnd};
+ghost use Rattle.eval_rules.specs.Outcomes.{reply_end};
 ghost use Rattle.eval_rules.specs.Rules.{no_such_method as no_such_method_end};
 ghost use Rattle.eval_rules.specs.View.{at};
 

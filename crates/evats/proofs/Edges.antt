@@ -1,5 +1,5 @@
 -- How a run over a reader and a writer ends.
-use Rattle.std.proofs.Common.{◌≡◌, ℕ, List, Option, Result, Ok, Err}
+use Rattle.std.proofs.Common.{ℕ, List, Option, Result, Ok, Err}
 use Rattle.std.specs.Prelude.{IfOk, IfErr}
 use Rattle.stepper_streams.specs.declared.lines.Lines.{Lines}
 use Rattle.stepper_streams.specs.declared.outlet.Outlet.{Outlet}

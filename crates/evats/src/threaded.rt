@@ -1,9 +1,9 @@
 // Workers in threads.
-use bench::once::work_once;
-use bench::work::NoGate;
+use bench_work::once::work_once;
+use bench_work::work::NoGate;
 use book::book::{Book, MOST_STEPS};
-use book::fault::{BookFault, WorkFault};
 use book_crew::crew::{Crew, Order};
+use book_refusals::fault::{BookFault, WorkFault};
 use std::alloc::Global;
 use std::sync::Wait;
 use std::thread::Threads;

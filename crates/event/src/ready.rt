@@ -81,7 +81,8 @@ pub struct Way {
     pub awaited: Fence,
 }
 
-fn is_done(world: &World, message: MsgId) -> bool
+/// Whether a message is there and done.
+pub fn is_done(world: &World, message: MsgId) -> bool
     ensures { result ≡ done_in (message_in_world (world_of world.now) message) }
 {
     match world.message(message) {
@@ -175,7 +176,7 @@ fn call_lead(
 }
 
 /// Whether a call on an end is made in this vat.
-fn is_there(vat: VatNo, end: &Value) -> bool
+pub fn is_there(vat: VatNo, end: &Value) -> bool
     ensures { result ≡ is_there_of vat (val_of end.now) }
 {
     match end {

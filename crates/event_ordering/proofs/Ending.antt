@@ -12,7 +12,6 @@ use Rattle.eorder.specs.Worlds.{after_acts}
 use Rattle.eorder.proofs.Worlds.{after_append}
 use Rattle.values.specs.Data.{Reply, gives, throws, broken}
 use Rattle.heap.specs.State.{State}
-use Rattle.post.specs.Messages.{Message}
 use Rattle.post.specs.Messages as post
 use Rattle.sends.specs.Vats.{settled, names_for}
 use Rattle.sends.specs.Making.{Published, told as told_value, ending}

@@ -16,7 +16,7 @@ use Rattle.eval_rules.specs.At.{At}
 use Rattle.eval_rules.specs.Outcomes.{End, Gather, values, halted}
 use Rattle.eval_rules.specs.Doings.{datum_of, datum_read, given_by, behind, resolver_out}
 use Rattle.eval_rules.specs.Rules.{Target, gives, enters, uses, method_in, method_target, resolver_target, object_target, no_such_method, Callee, on_object, on_ejector, on_datum, on_far, callee_of, callee_target, target_of, receiver, receiver_read, called, parts_of, entering}
-use Rattle.eval_rules.specs.Rules.{Ends, at_budget, at_depth, at_node, Runs, run_null, run_bool, run_int, run_text, run_noun, run_define, run_variable, run_assign, run_call_receiver, run_call_gives, run_call_enters, run_call_uses, run_send_receiver, run_send, run_list, run_same_left, run_same, run_define_list, run_hide, run_throw, run_if_goes, run_if_ends, run_while_again, run_while_halts, run_while_done, run_while_ends, run_for, run_for_ends, run_try, run_try_caught, run_object, run_escape, run_when, run_when_catch, run_new_promise, run_break_ref, run_state_ref, Needs, needs, Args, args_none, args_next, args_halt, Items, items_none, items_next, items_halt, Block, in_block, Taking, in_taking, Each, each_none, each_next, each_halt}
+use Rattle.eval_rules.specs.Rules.{Ends, at_budget, at_depth, at_node, Runs, run_null, run_bool, run_int, run_text, run_noun, run_define, run_variable, run_assign, run_call_receiver, run_call_gives, run_call_enters, run_call_uses, run_send_receiver, run_send, run_list, run_same_left, run_same, run_define_list, run_hide, run_primitive, run_if_goes, run_if_ends, run_while_again, run_while_halts, run_while_done, run_while_ends, run_for, run_for_ends, run_try, run_try_caught, run_object, run_escape, run_when, run_when_catch, run_new_promise, Needs, needs, Args, args_none, args_next, args_halt, Items, items_none, items_next, items_halt, Block, in_block, Taking, in_taking, Each, each_none, each_next, each_halt}
 use Rattle.event_ordering.specs.Acting.{resolver_acts, acts, acts_below, acts_of_datum, acts_of_args, acts_of_items, acts_of_block, acts_of_taking, acts_of_each}
 use Rattle.event_ordering.proofs.Effects.{Makes, PublishedTo, resolving_makes, smashing_makes}
 use Rattle.event_ordering.proofs.Acted.{Acted, QuietAt, none, quietly, acted_then, quiet_behind, quiet_first, noun_quiet, matched_quiet, defined_quiet, parts_quiet, declared_quiet, assigned_quiet, object_quiet, called_quiet, datum_quiet, same_quiet, pair_quiet, when_quiet, sent_acts, used_acts}
@@ -106,7 +106,7 @@ module _ (base : Fences) (n : VatNo) (before : PromId → Bool) (ev : EventName)
     runs_act (run_define_list {ps = ps} {b = b} {o = o} r) =
         quiet_behind base n before ev (quiet_behind base n before ev (ends_act r) (datum_quiet base n before ev o b)) (parts_quiet base n before ev ps (parts_of ps (datum_of o b)) (datum_read o b))
     runs_act (run_hide q) = block_act q
-    runs_act (run_throw r) = needs_act r
+    runs_act (run_primitive r) = needs_act r
     runs_act (run_if_goes r e q) = acted_then base n before ev (needs_act r) (block_act q)
     runs_act (run_if_ends r e) = needs_act r
     runs_act (run_while_again r e q w) = acted_then base n before ev (acted_then base n before ev (needs_act r) (block_act q)) (runs_act w)
@@ -123,8 +123,6 @@ module _ (base : Fences) (n : VatNo) (before : PromId → Bool) (ev : EventName)
     runs_act (run_when_catch {body = body} {p = p} {handler = handler} {b = b} {o = o} r) =
         quiet_behind base n before ev (ends_act r) (when_quiet base n before ev body (Some (record { pattern = p; block = handler })) o b)
     runs_act (run_new_promise {a = a}) = quietly base n before ev (pair_quiet base n before ev a)
-    runs_act (run_break_ref r) = needs_act r
-    runs_act (run_state_ref r) = needs_act r
 
     pub needs_act : {k : ℕ} {t : Tree} {a b : At} {o : End} (r : Needs k t a o b) → Does a (acts_of_datum before r) b
     needs_act (needs {b = b} {o = o} r) = quiet_behind base n before ev (ends_act r) (datum_quiet base n before ev o b)

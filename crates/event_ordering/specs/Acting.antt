@@ -16,7 +16,7 @@ use Rattle.eval_rules.specs.Outbox.{is_published, Outbox}
 use Rattle.eval_rules.specs.At.{At}
 use Rattle.eval_rules.specs.Doings.{given_by, next_message, send_of}
 use Rattle.eval_rules.specs.Outcomes.{End, Gather, values, halted}
-use Rattle.eval_rules.specs.Rules.{called, Ends, at_budget, at_depth, at_node, Runs, run_null, run_bool, run_int, run_text, run_noun, run_define, run_variable, run_assign, run_call_receiver, run_call_gives, run_call_enters, run_call_uses, run_send_receiver, run_send, run_list, run_same_left, run_same, run_define_list, run_hide, run_throw, run_if_goes, run_if_ends, run_while_again, run_while_halts, run_while_done, run_while_ends, run_for, run_for_ends, run_try, run_try_caught, run_object, run_escape, run_when, run_when_catch, run_new_promise, run_break_ref, run_state_ref, Needs, needs, Args, args_none, args_next, args_halt, Items, items_none, items_next, items_halt, Block, in_block, Taking, in_taking, Each, each_none, each_next, each_halt}
+use Rattle.eval_rules.specs.Rules.{called, Ends, at_budget, at_depth, at_node, Runs, run_null, run_bool, run_int, run_text, run_noun, run_define, run_variable, run_assign, run_call_receiver, run_call_gives, run_call_enters, run_call_uses, run_send_receiver, run_send, run_list, run_same_left, run_same, run_define_list, run_hide, run_primitive, run_if_goes, run_if_ends, run_while_again, run_while_halts, run_while_done, run_while_ends, run_for, run_for_ends, run_try, run_try_caught, run_object, run_escape, run_when, run_when_catch, run_new_promise, Needs, needs, Args, args_none, args_next, args_halt, Items, items_none, items_next, items_halt, Block, in_block, Taking, in_taking, Each, each_none, each_next, each_halt}
 
 -- references leave in a carrier, from the left
 abbrev pub left_in : Carrier → List Reference → List Act
@@ -89,7 +89,7 @@ module _ (before : PromId → Bool) where
     acts_below (run_same r u) = acts u ++ acts r
     acts_below (run_define_list r) = acts r
     acts_below (run_hide q) = acts_of_block q
-    acts_below (run_throw r) = acts_of_datum r
+    acts_below (run_primitive r) = acts_of_datum r
     acts_below (run_if_goes r e q) = acts_of_block q ++ acts_of_datum r
     acts_below (run_if_ends r e) = acts_of_datum r
     acts_below (run_while_again r e q w) = acts_below w ++ (acts_of_block q ++ acts_of_datum r)
@@ -105,8 +105,6 @@ module _ (before : PromId → Bool) where
     acts_below (run_when r) = acts r
     acts_below (run_when_catch r) = acts r
     acts_below run_new_promise = []
-    acts_below (run_break_ref r) = acts_of_datum r
-    acts_below (run_state_ref r) = acts_of_datum r
 
     pub acts_of_datum : {k : ℕ} {t : Tree} {a b : At} {o : End} → Needs k t a o b → List Act
     acts_of_datum (needs r) = acts r

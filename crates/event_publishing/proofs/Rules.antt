@@ -10,7 +10,7 @@ use Rattle.eval_rules.specs.At.{At}
 use Rattle.eval_rules.specs.Outcomes.{End, Gather}
 use Rattle.eval_rules.specs.Doings.{datum_of, datum_read}
 use Rattle.eval_rules.specs.Rules.{called, parts_of, entering}
-use Rattle.eval_rules.specs.Rules.{Ends, at_budget, at_depth, at_node, Runs, run_null, run_bool, run_int, run_text, run_noun, run_define, run_variable, run_assign, run_call_receiver, run_call_gives, run_call_enters, run_call_uses, run_send_receiver, run_send, run_list, run_same_left, run_same, run_define_list, run_hide, run_throw, run_if_goes, run_if_ends, run_while_again, run_while_halts, run_while_done, run_while_ends, run_for, run_for_ends, run_try, run_try_caught, run_object, run_escape, run_when, run_when_catch, run_new_promise, run_break_ref, run_state_ref, Needs, needs, Args, args_none, args_next, args_halt, Items, items_none, items_next, items_halt, Block, in_block, Taking, in_taking, Each, each_none, each_next, each_halt}
+use Rattle.eval_rules.specs.Rules.{Ends, at_budget, at_depth, at_node, Runs, run_null, run_bool, run_int, run_text, run_noun, run_define, run_variable, run_assign, run_call_receiver, run_call_gives, run_call_enters, run_call_uses, run_send_receiver, run_send, run_list, run_same_left, run_same, run_define_list, run_hide, run_primitive, run_if_goes, run_if_ends, run_while_again, run_while_halts, run_while_done, run_while_ends, run_for, run_for_ends, run_try, run_try_caught, run_object, run_escape, run_when, run_when_catch, run_new_promise, Needs, needs, Args, args_none, args_next, args_halt, Items, items_none, items_next, items_halt, Block, in_block, Taking, in_taking, Each, each_none, each_next, each_halt}
 use Rattle.event_publishing.proofs.Quiet.{noun_quiet, matched_quiet, defined_quiet, parts_quiet, declared_quiet, assigned_quiet, object_tree_quiet, called_quiet, datum_quiet, same_quiet}
 use Rattle.event_publishing.proofs.Orderly.{OrderlyAt, quietly}
 use Rattle.event_publishing.proofs.Stepping.{sent_orderly, when_orderly, pair_orderly, call_uses}
@@ -49,7 +49,7 @@ module _ (e : EventName) (v : VatNo) (s : State) where
         let d : At = datum_read o b in
         quietly e v s (parts_quiet ps (parts_of ps (datum_of o b)) d) (quietly e v s (datum_quiet o b) (ends_orderly r h))
     runs_orderly (run_hide q) h = block_orderly q h
-    runs_orderly (run_throw r) h = needs_orderly r h
+    runs_orderly (run_primitive r) h = needs_orderly r h
     runs_orderly (run_if_goes r i q) h = block_orderly q (needs_orderly r h)
     runs_orderly (run_if_ends r i) h = needs_orderly r h
     runs_orderly (run_while_again r i q w) h = runs_orderly w (block_orderly q (needs_orderly r h))
@@ -65,8 +65,6 @@ module _ (e : EventName) (v : VatNo) (s : State) where
     runs_orderly (run_when {body = body} {b = b} {o = o} r) h = when_orderly e v s body None o b (ends_orderly r h)
     runs_orderly (run_when_catch {body = body} {p = p} {handler = handler} {b = b} {o = o} r) h = when_orderly e v s body (Some (record { pattern = p; block = handler })) o b (ends_orderly r h)
     runs_orderly (run_new_promise {a = a}) h = pair_orderly e v s a h
-    runs_orderly (run_break_ref r) h = needs_orderly r h
-    runs_orderly (run_state_ref r) h = needs_orderly r h
 
     pub needs_orderly : {k : ℕ} {t : Tree} {a b : At} {o : End} → Needs k t a o b → Is a → Is b
     needs_orderly (needs {b = b} {o = o} r) h = quietly e v s (datum_quiet o b) (ends_orderly r h)

@@ -1,24 +1,15 @@
 -- Kinds of cells: what is known of the cells of one kind makes no difference to those of another.
-use Rattle.std.proofs.Common.{◌≡◌, Option, Some, None, Bool, true, false, cond, is_some, List, refl, sym, ap, ◌∙◌}
+use Rattle.std.proofs.Common.{◌≡◌, Option, Some, None, Bool, true, false, cond, is_some, refl, ap, ◌∙◌}
 use Rattle.std.specs.Option.{option_map}
-use Rattle.ids.specs.declared.names.SlotId.{SlotId}
-use Rattle.ids.specs.declared.names.ObjId.{ObjId}
-use Rattle.ids.specs.declared.names.PromId.{PromId}
-use Rattle.ids.specs.declared.names.MsgId.{MsgId}
-use Rattle.ids.specs.declared.reference.Reference.{Reference}
 use Rattle.ids.proofs.CellKeys.{slots_agree, objects_agree, promises_agree, references_agree}
-use Rattle.kernele.specs.Tree.{Name}
 use Rattle.cells.specs.Touches.{touch}
 use Rattle.cells.specs.declared.touches.Touch.{Touch}
 use Rattle.cells.specs.declared.touches.Touches.{Touches}
-use Rattle.values.specs.declared.value.Value.{Value}
 use Rattle.values.specs.View.{val_of}
 use Rattle.heap.specs.State.{Content, Cell, top, slot_cell, object_cell, view_cell, fence_cell, bound, held, made, viewed, fenced, State, also, write, same_cell}
 use Rattle.heap.specs.View.{bind_of, object_of, view_of, same_name, same_slot, same_object, same_promise, same_target}
 use Rattle.heap.specs.Found.{touch_of, touch_in, touched_in, writes_in, over_state, Found}
-use Rattle.heap.specs.declared.state.Binding.{Binding}
 use Rattle.heap.specs.declared.state.View.{View}
-use Rattle.heap.specs.declared.made.Made.{Made}
 use Rattle.heap.specs.declared.reach.Footprint.{Footprint}
 use Rattle.heap.proofs.Reaching.{touched_more, state_written, writes_more, still_found, state_read, writes_read, state_same, writes_same, found_same, some_is, none_is}
 

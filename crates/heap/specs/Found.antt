@@ -1,18 +1,12 @@
 -- What is known of the cells that a turn touched.
-use Rattle.std.specs.Prelude.{◌≡◌, Bool, Option, Some, None, is_some}
+use Rattle.std.specs.Prelude.{◌≡◌, Option, Some, None, is_some}
 use Rattle.std.specs.Option.{option_map}
-use Rattle.ids.specs.declared.names.SlotId.{SlotId}
-use Rattle.ids.specs.declared.names.ObjId.{ObjId}
-use Rattle.kernele.specs.Tree.{Name}
 use Rattle.cells.specs.Touches.{standing, touch}
 use Rattle.cells.specs.declared.touches.Touch.{Touch}
-use Rattle.values.specs.declared.value.Value.{Value}
 use Rattle.values.specs.View.{val_of}
 use Rattle.heap.specs.State.{Cell, top, slot_cell, object_cell, view_cell, fence_cell, Content, bound, held, made, viewed, fenced, State, Cells}
 use Rattle.heap.specs.Sets.{found_contents}
 use Rattle.heap.specs.View.{bind_of, object_of, view_of, same_name, same_slot, same_object, same_promise, same_target}
-use Rattle.heap.specs.declared.state.Binding.{Binding}
-use Rattle.heap.specs.declared.made.Made.{Made}
 use Rattle.heap.specs.declared.reach.Footprint.{Footprint}
 
 -- what is known of a cell, where its contents stand for these

@@ -16,7 +16,7 @@ pattern_lists : IsSet (List Pattern)
 pattern_lists = hlevel (props, patterns)
 
 methods : IsSet Methods
-methods = Methods-set (hlevel props) (hlevel props) names patterns pattern_lists
+methods = Methods-set (hlevel props) (hlevel props) names patterns pattern_lists (hlevel props)
 
 pub vals : IsSet Val
 vals = Val-set (hlevel props) (hlevel props) names (hlevel props) (hlevel props) (hlevel props)

@@ -1,10 +1,10 @@
 -- Names: the causes that are computed are the causes, and a new name is no older entry's cause.
-use Rattle.std.proofs.Common.{◌≡◌, ◌≢◌, ℕ, ◌+◌, ◌<◌, ◌≤◌, Bool, true, false, cond, ◌&&◌, ◌==◌, List, [], ◌∷◌, map, filter, reverse, Option, ◌∙◌, refl, sym, arith, ne_eqb, eq-eqb}
+use Rattle.std.proofs.Common.{◌≡◌, ◌≢◌, ℕ, ◌<◌, ◌≤◌, Bool, true, false, cond, ◌&&◌, ◌==◌, List, [], ◌∷◌, map, filter, reverse, Option, ◌∙◌, refl, sym, arith, ne_eqb, eq-eqb}
 use Rattle.std.specs.List.{AllByRecursion}
 use Rattle.std.proofs.lemmas.Bool.{or_left}
 use Rattle.std.proofs.lemmas.List.Sorted.{list_any-IsPermutation, IsPermutation-reverse}
 use Rattle.history.specs.Subject.{Subject, Laws, World, Foot, after, meets}
-use Rattle.history.specs.Journal.{Entry, name_of, is_in, named, caused, live_set, Good, Distinct, Below, Free, Named, causes_of, NamesCauses, new_entry}
+use Rattle.history.specs.Journal.{Entry, name_of, is_in, named, live_set, Good, Distinct, Below, Free, Named, causes_of, NamesCauses, new_entry}
 use Rattle.history.proofs.Lists.{all_map, all_both, all_reversed}
 use Rattle.history.proofs.Changes.{appended_good}
 

@@ -20,7 +20,7 @@ use Rattle.world_cells.specs.declared.record.CellRecord.{CellRecord}
 use Rattle.journal.specs.Items.{Item, item_of, last_of, lasts_of, swap_item, exchanged}
 use Rattle.journal.specs.Lines.{last_among, plain}
 use Rattle.journal.specs.Links.{lister, IsListed, AreListed, names_of}
-use Rattle.journal.specs.Settled.{written_by}
+use Rattle.journal.specs.Settled.{written_by, written_over}
 use Rattle.journal.specs.SettledView.{settled_item, items_in}
 use Rattle.journal.specs.declared.entry.Entry.{Entry}
 use Rattle.journal.specs.declared.entry.Touched.{Touched}
@@ -171,7 +171,7 @@ module _ (lasts : Item → List (CellKey × Option ℕ)) where
 pub written_swapped : (live : Bool) (i : Item) (w : State cells) → written_by (swap_item live i w).0 ≡ written_by i
 written_swapped live i w = each i.kept w
   where
-    each : (ps : Record cells) (v : State cells) → map {B = CellKey × Option ℕ} (λ r. (r.0, last_among i.lasts r.0)) (swap_record cells ps v) ≡ map {B = CellKey × Option ℕ} (λ r. (r.0, last_among i.lasts r.0)) ps
+    each : (ps : Record cells) (v : State cells) → written_over i.lasts (swap_record cells ps v) ≡ written_over i.lasts ps
     each [] v = refl
     each (p ∷ ps) v = ap (λ l. (p.0, last_among i.lasts p.0) ∷ l) (each ps (hold cells v p.0 p.1))
 
@@ -184,9 +184,9 @@ follows_more old new e xs i d h kept before here =
 
 -- and one more of those that were written
 pub inherits_more : (old new : EventName → EventName → Bool) (e : EventName) (lasts : List (CellKey × Option ℕ)) (xs : List CellRecord) (i : ℕ) (d : CellRecord) → i < length xs → Keeps old new
-    → IsListed old e (map (λ r. (r.0, last_among lasts r.0)) (kepts_of (take i xs)))
+    → IsListed old e (written_over lasts (kepts_of (take i xs)))
     → new (lister (record_of (get_or xs i d)).0 (last_among lasts (record_of (get_or xs i d)).0)) e ≡ true
-    → IsListed new e (map (λ r. (r.0, last_among lasts r.0)) (kepts_of (take (i + 1) xs)))
+    → IsListed new e (written_over lasts (kepts_of (take (i + 1) xs)))
 inherits_more old new e lasts xs i d h kept before here =
     let pair : CellKey × (Option Content × Option ℕ) → CellKey × Option ℕ = λ r. (r.0, last_among lasts r.0) in
     subst (IsListed new e)
@@ -212,6 +212,6 @@ among on [] k h g = g
 among on (p ∷ ps) k (h, hs) g = among_at on p ps k (same_key p.0 k) refl h (among on ps k hs g)
 
 pub listed_widely : (on_list : EventName → EventName → Bool) (e : EventName) (lasts : List (CellKey × Option ℕ)) (rs : Record cells) → IsListed on_list e lasts
-    → IsListed on_list e (map {B = CellKey × Option ℕ} (λ r. (r.0, last_among [] r.0)) rs) → IsListed on_list e (map {B = CellKey × Option ℕ} (λ r. (r.0, last_among lasts r.0)) rs)
+    → IsListed on_list e (written_over [] rs) → IsListed on_list e (written_over lasts rs)
 listed_widely on_list e lasts [] h g = tt
 listed_widely on_list e lasts (r ∷ rs) h (g, gs) = (among (λ w. on_list w e) lasts r.0 h g, listed_widely on_list e lasts rs h gs)

@@ -1,5 +1,5 @@
 -- What is kept of a settled entry tells what it wrote.
-use Rattle.std.proofs.Common.{◌≡◌, ℕ, zero, suc, ◌+◌, ◌<◌, ◌++◌, length, get_or, slice_get, arith, Bool, true, false, cond, List, [], ◌∷◌, Option, Some, None, is_some, unwrap_or, map, refl, sym, ap, ◌∙◌, subst}
+use Rattle.std.proofs.Common.{◌≡◌, ℕ, zero, suc, ◌+◌, ◌<◌, ◌++◌, length, get_or, slice_get, arith, Bool, true, false, cond, List, [], ◌∷◌, Option, Some, None, is_some, unwrap_or, map, refl, sym, ap, ◌∙◌}
 use Rattle.std.proofs.Math.Bool.{Bool-set}
 use Rattle.std.proofs.Math.Logic.{∥∥₁_elim}
 use Rattle.std.proofs.Props.{props}
@@ -15,7 +15,6 @@ use Rattle.history.specs.Records.{Record}
 use Rattle.journal.specs.Items.{Item, item_of, lasts_of, wrote_one_of}
 use Rattle.journal.specs.Journals.{settled_item}
 use Rattle.journal.specs.Lines.{plain, last_among, writer_of, wrote_cell}
-use Rattle.journal.specs.Settled.{Keeps, written_by}
 use Rattle.journal.specs.declared.entry.Entry.{Entry}
 use Rattle.journal.specs.declared.settled.Settled.{Settled}
 use Rattle.journal.proofs.Touching.{any-map}

@@ -1,5 +1,5 @@
 -- The items of settled entries, and of those behind them.
-use Rattle.std.specs.Prelude.{Bool, true, List, ◌++◌, map}
+use Rattle.std.specs.Prelude.{true, List, ◌++◌, map}
 use Rattle.journal.specs.Items.{Item, item_of}
 use Rattle.journal.specs.declared.entry.Entry.{Entry}
 use Rattle.journal.specs.declared.settled.Settled.{Settled}

@@ -1,13 +1,13 @@
 // Entries are listed with those whose cells they found, and with those whose cells they wrote over.
-ghost use Rattle.std.specs.Prelude.{◌≡◌, true, OnOk, map};
+ghost use Rattle.std.specs.Prelude.{◌≡◌, true, OnOk};
 ghost use Rattle.std.specs.List.{AllByRecursion};
 ghost use Rattle.ids.specs.declared.names.EventName.{EventName};
 ghost use Rattle.journal_links.specs.Followers.{may_follow, IsLetGo};
 ghost use Rattle.journal_links.specs.Heirs.{is_heir};
 ghost use Rattle.world_cells.specs.Theory.{kepts_of};
 ghost use Rattle.journal.specs.Items.{lasts_of, number_of};
-ghost use Rattle.journal.specs.Lines.{last_among};
 ghost use Rattle.journal.specs.Links.{anchor, event_in, lister, IsListed};
+ghost use Rattle.journal.specs.Settled.{written_over};
 
 use crate::entry::{Entry, Touched, writer_among};
 use ids::cells::CellKey;
@@ -81,7 +81,7 @@ fn list_exactly(
     touched: &[Touched],
     records: &[CellRecord],
 ) -> Result<(), AllocError>
-    ensures ok { OnOk result (IsListed (is_heir heirs.new) event (map (λ r. (r.0, last_among (lasts_of touched.now) r.0)) (kepts_of records.now))) }
+    ensures ok { OnOk result (IsListed (is_heir heirs.new) event (written_over (lasts_of touched.now) (kepts_of records.now))) }
     ensures kept { (e f : EventName) → is_heir heirs.old e f ≡ true → is_heir heirs.new e f ≡ true }
 {
     for record in records {
@@ -110,7 +110,7 @@ fn list_widely(
     touched: &[Touched],
     records: &[CellRecord],
 ) -> Result<(), AllocError>
-    ensures ok { OnOk result (IsListed (is_heir heirs.new) event (map (λ r. (r.0, last_among (lasts_of touched.now) r.0)) (kepts_of records.now))) }
+    ensures ok { OnOk result (IsListed (is_heir heirs.new) event (written_over (lasts_of touched.now) (kepts_of records.now))) }
     ensures kept { (e f : EventName) → is_heir heirs.old e f ≡ true → is_heir heirs.new e f ≡ true }
 {
     list_all(heirs, event, touched)?;
@@ -125,7 +125,7 @@ pub fn list_heir(
     touched: &[Touched],
     records: &[CellRecord],
 ) -> Result<(), AllocError>
-    ensures ok { OnOk result (IsListed (is_heir heirs.new) event (map (λ r. (r.0, last_among (lasts_of touched.now) r.0)) (kepts_of records.now))) }
+    ensures ok { OnOk result (IsListed (is_heir heirs.new) event (written_over (lasts_of touched.now) (kepts_of records.now))) }
     ensures kept { (e f : EventName) → is_heir heirs.old e f ≡ true → is_heir heirs.new e f ≡ true }
 {
     if records.len() > FEW_RECORDS {

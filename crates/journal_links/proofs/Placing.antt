@@ -1,5 +1,5 @@
 -- Places stay right as names come and change places.
-use Rattle.std.proofs.Common.{◌≡◌, ◌≢◌, ◌∙◌, ℕ, zero, suc, ◌+◌, ◌<◌, ◌==◌, Bool, true, false, cond, List, [], ◌∷◌, ◌++◌, Option, Some, None, is_some, length, slice_get, get_or, refl, sym, ap, arith, inl, inr, ◌⊎◌, eqb-true, eq-eqb, true≢false}
+use Rattle.std.proofs.Common.{◌≡◌, ◌≢◌, ◌∙◌, ℕ, zero, suc, ◌+◌, ◌<◌, ◌==◌, Bool, true, false, cond, List, [], ◌∷◌, ◌++◌, Option, Some, None, is_some, length, slice_get, get_or, refl, sym, ap, arith, eqb-true, eq-eqb, true≢false}
 use Rattle.ids.specs.declared.names.EventName.{EventName}
 use Rattle.journal_links.specs.Places.{place_of, HasRoom, Finds, ArePlaces}
 use Rattle.journal_links.specs.declared.places.Places.{Places}

@@ -1,5 +1,5 @@
 -- Who wrote over what each event left.
-use Rattle.std.specs.Prelude.{ℕ, ◌<◌, Bool, List, [], Option, Some, None, length, slice_get}
+use Rattle.std.specs.Prelude.{◌<◌, Bool, List, [], Option, Some, None, length, slice_get}
 use Rattle.std.specs.declared.alloc.Global.{Global}
 use Rattle.std.specs.declared.vec.Vec.{Vec}
 use Rattle.ids.specs.declared.names.EventName.{EventName}

@@ -1,5 +1,5 @@
 // Where the entry of each event stands.
-ghost use Rattle.std.specs.Prelude.{◌≡◌, ◌==◌, ℕ, cond, None, Some, OnOk};
+ghost use Rattle.std.specs.Prelude.{◌≡◌, ◌==◌, cond, None, Some, OnOk};
 ghost use Rattle.ids.specs.declared.names.EventName.{EventName};
 
 use ids::names::EventName;

@@ -1,6 +1,6 @@
 -- What a tree begins with and the rest of it are its spelling.
 use Rattle.std.proofs.Common.{◌≡◌, List, ℕ, ◌++◌, map, codes, refl, ap, sym, ◌∙◌, append_assoc, append-nil}
-use Rattle.kernele.specs.Tree.{Tree, null_tree, bool_tree, int_tree, text_tree, noun, define, variable, assign, call, list_tree, same_tree, define_list, hide, if_tree, while_tree, for_tree, try_tree, throw_tree, object_tree, escape_tree, send, when_tree, when_catch_tree, new_promise, break_ref, state_ref}
+use Rattle.kernele.specs.Tree.{Tree, null_tree, bool_tree, int_tree, text_tree, noun, define, variable, assign, call, list_tree, same_tree, define_list, hide, if_tree, while_tree, for_tree, try_tree, primitive, object_tree, escape_tree, send, when_tree, when_catch_tree, new_promise}
 use Rattle.kernele.specs.Spelling.{joined, bound_name, as_part, as_receiver, message, in_braces, methods_in_braces, spelled, spelled_parts, spelled_items, spelled_methods}
 use Rattle.kernele.specs.Halves.{beginning, rest_of}
 
@@ -34,15 +34,13 @@ halves (if_tree c first second) = four (codes "if (" ++ as_part c (spelled c)) (
 halves (while_tree c body) = two (codes "while (" ++ as_part c (spelled c)) (codes ") ") (in_braces (spelled_items body))
 halves (for_tree p e body) = four (codes "for " ++ bound_name p) (codes " in ") (as_part e (spelled e)) (codes " ") (in_braces (spelled_items body))
 halves (try_tree body p handler) = four (codes "try " ++ in_braces (spelled_items body)) (codes " catch ") (bound_name p) (codes " ") (in_braces (spelled_items handler))
-halves (throw_tree e) = refl
+halves (primitive q e) = refl
 halves (object_tree p ms) = two (codes "def " ++ bound_name p) (codes " ") (methods_in_braces (spelled_methods ms))
 halves (escape_tree x body) = two (codes "escape " ++ x) (codes " ") (in_braces (spelled_items body))
 halves (send r verb args) = two (as_receiver r (spelled r)) (codes " <- ") (message verb (spelled_parts args))
 halves (when_tree e body) = two (codes "when (" ++ as_part e (spelled e)) (codes ") -> ") (in_braces (spelled_items body))
 halves (when_catch_tree e body p handler) = six (codes "when (" ++ as_part e (spelled e)) (codes ") -> ") (in_braces (spelled_items body)) (codes " catch ") (bound_name p) (codes " ") (in_braces (spelled_items handler))
 halves new_promise = append-nil (codes "Ref.promise()")
-halves (break_ref e) = refl
-halves (state_ref e) = refl
 
 -- the two behind what was written before
 pub written_in_two : (was : List ℕ) (t : Tree) → was ++ beginning t ++ rest_of t ≡ was ++ spelled t

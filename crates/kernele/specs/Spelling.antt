@@ -2,9 +2,11 @@
 use Rattle.std.specs.Prelude.{ℕ, List, [], ◌∷◌, ◌++◌, map, Bool, true, false, codes, if◌then◌else◌}
 use Rattle.std.specs.Fmt.{signed_decimal}
 use Rattle.ids.specs.Quoted.{quoted}
-use Rattle.kernele.specs.Tree.{Name, Tree, null_tree, bool_tree, int_tree, text_tree, noun, define, variable, assign, call, list_tree, same_tree, define_list, hide, if_tree, while_tree, for_tree, try_tree, throw_tree, object_tree, escape_tree, send, when_tree, when_catch_tree, new_promise, break_ref, state_ref, Trees, none, and_then, Methods, no_methods, and_method}
+use Rattle.kernele.specs.Tree.{Name, Tree, null_tree, bool_tree, int_tree, text_tree, noun, define, variable, assign, call, list_tree, same_tree, define_list, hide, if_tree, while_tree, for_tree, try_tree, primitive, object_tree, escape_tree, send, when_tree, when_catch_tree, new_promise, Trees, none, and_then, Methods, no_methods, and_method}
 use Rattle.kernele.specs.declared.tree.Pattern.{Pattern}
 use Rattle.kernele.specs.declared.tree.Pattern.TheVariants as pattern
+use Rattle.kernele.specs.declared.tree.Primitive.{Primitive}
+use Rattle.kernele.specs.declared.tree.Primitive.TheVariants as primitives
 
 -- texts, each behind a separator
 abbrev pub led_by : List ℕ → List (List ℕ) → List ℕ
@@ -25,6 +27,12 @@ abbrev pub bound_name : Pattern → List ℕ
 bound_name (pattern.Name x) = x
 bound_name pattern.Ignore = codes "_"
 
+-- what stands before the value that a primitive is of
+abbrev pub primitive_words : Primitive → List ℕ
+primitive_words primitives.Throw = codes "throw("
+primitive_words primitives.BreakRef = codes "Ref.broken("
+primitive_words primitives.StateRef = codes "Ref.state("
+
 -- only as an item of a block does a definition, of a name or a list, a variable or an assignment stand without brackets
 abbrev pub needs_brackets : Tree → Bool
 needs_brackets null_tree = false
@@ -44,15 +52,13 @@ needs_brackets (if_tree c first second) = false
 needs_brackets (while_tree c body) = false
 needs_brackets (for_tree p e body) = false
 needs_brackets (try_tree body p handler) = false
-needs_brackets (throw_tree e) = false
+needs_brackets (primitive q e) = false
 needs_brackets (object_tree p ms) = false
 needs_brackets (escape_tree x body) = false
 needs_brackets (send r verb args) = false
 needs_brackets (when_tree e body) = false
 needs_brackets (when_catch_tree e body p handler) = false
 needs_brackets new_promise = false
-needs_brackets (break_ref e) = false
-needs_brackets (state_ref e) = false
 
 -- nouns, literals, lists, calls, sends and comparisons are receivers without brackets
 abbrev pub is_bare_receiver : Tree → Bool
@@ -73,15 +79,13 @@ is_bare_receiver (if_tree c first second) = false
 is_bare_receiver (while_tree c body) = false
 is_bare_receiver (for_tree p e body) = false
 is_bare_receiver (try_tree body p handler) = false
-is_bare_receiver (throw_tree e) = false
+is_bare_receiver (primitive q e) = false
 is_bare_receiver (object_tree p ms) = false
 is_bare_receiver (escape_tree x body) = false
 is_bare_receiver (send r verb args) = true
 is_bare_receiver (when_tree e body) = false
 is_bare_receiver (when_catch_tree e body p handler) = false
 is_bare_receiver new_promise = false
-is_bare_receiver (break_ref e) = false
-is_bare_receiver (state_ref e) = false
 
 -- a part of another tree, from its spelling
 abbrev pub as_part : Tree → List ℕ → List ℕ
@@ -129,15 +133,13 @@ abbrev mutual
   spelled (while_tree c body) = codes "while (" ++ as_part c (spelled c) ++ codes ") " ++ in_braces (spelled_items body)
   spelled (for_tree p e body) = codes "for " ++ bound_name p ++ codes " in " ++ as_part e (spelled e) ++ codes " " ++ in_braces (spelled_items body)
   spelled (try_tree body p handler) = codes "try " ++ in_braces (spelled_items body) ++ codes " catch " ++ bound_name p ++ codes " " ++ in_braces (spelled_items handler)
-  spelled (throw_tree e) = codes "throw(" ++ as_part e (spelled e) ++ codes ")"
+  spelled (primitive q e) = primitive_words q ++ as_part e (spelled e) ++ codes ")"
   spelled (object_tree p ms) = codes "def " ++ bound_name p ++ codes " " ++ methods_in_braces (spelled_methods ms)
   spelled (escape_tree x body) = codes "escape " ++ x ++ codes " " ++ in_braces (spelled_items body)
   spelled (send r verb args) = as_receiver r (spelled r) ++ codes " <- " ++ message verb (spelled_parts args)
   spelled (when_tree e body) = codes "when (" ++ as_part e (spelled e) ++ codes ") -> " ++ in_braces (spelled_items body)
   spelled (when_catch_tree e body p handler) = codes "when (" ++ as_part e (spelled e) ++ codes ") -> " ++ in_braces (spelled_items body) ++ codes " catch " ++ bound_name p ++ codes " " ++ in_braces (spelled_items handler)
   spelled new_promise = codes "Ref.promise()"
-  spelled (break_ref e) = codes "Ref.broken(" ++ as_part e (spelled e) ++ codes ")"
-  spelled (state_ref e) = codes "Ref.state(" ++ as_part e (spelled e) ++ codes ")"
 
   -- arguments, or the items of a list
   pub spelled_parts : Trees → List (List ℕ)

@@ -1,6 +1,7 @@
 -- Trees as plain data: no pointers, no capacities.
 use Rattle.std.specs.Prelude.{ℕ, ℤ, Bool, List}
 use Rattle.kernele.specs.declared.tree.Pattern.{Pattern}
+use Rattle.kernele.specs.declared.tree.Primitive.{Primitive}
 
 -- a name, a verb or a text: its bytes
 abbrev pub Name : Type 0
@@ -25,15 +26,13 @@ mutual
     while_tree : (c : Tree) → (body : Trees) → Tree
     for_tree : (p : Pattern) → (e : Tree) → (body : Trees) → Tree
     try_tree : (body : Trees) → (p : Pattern) → (handler : Trees) → Tree
-    throw_tree : (e : Tree) → Tree
+    primitive : (q : Primitive) → (e : Tree) → Tree
     object_tree : (p : Pattern) → (methods : Methods) → Tree
     escape_tree : (x : Name) → (body : Trees) → Tree
     send : (r : Tree) → (verb : Name) → (args : Trees) → Tree
     when_tree : (e : Tree) → (body : Trees) → Tree
     when_catch_tree : (e : Tree) → (body : Trees) → (p : Pattern) → (handler : Trees) → Tree
     new_promise : Tree
-    break_ref : (e : Tree) → Tree
-    state_ref : (e : Tree) → Tree
     deriving IsSet as Tree-set
 
   -- a block, arguments, or the items of a list

@@ -1,6 +1,6 @@
 -- What the program's trees stand for.
 use Rattle.std.specs.Prelude.{List, [], ◌∷◌}
-use Rattle.kernele.specs.Tree.{Tree, null_tree, bool_tree, int_tree, text_tree, noun, define, variable, assign, call, list_tree, same_tree, define_list, hide, if_tree, while_tree, for_tree, try_tree, throw_tree, object_tree, escape_tree, send, when_tree, when_catch_tree, new_promise, break_ref, state_ref, Trees, none, and_then, Methods, no_methods, and_method}
+use Rattle.kernele.specs.Tree.{Tree, null_tree, bool_tree, int_tree, text_tree, noun, define, variable, assign, call, list_tree, same_tree, define_list, hide, if_tree, while_tree, for_tree, try_tree, primitive, object_tree, escape_tree, send, when_tree, when_catch_tree, new_promise, Trees, none, and_then, Methods, no_methods, and_method}
 use Rattle.kernele.specs.declared.tree.Expr as code
 use Rattle.kernele.specs.declared.tree.Expr.{Expr}
 use Rattle.kernele.specs.declared.tree.Method.{Method}
@@ -26,15 +26,13 @@ abbrev mutual
   tree_of (code.While' p c q shape body) = while_tree (tree_of c) (trees_of_row body)
   tree_of (code.For' pattern p e q shape body) = for_tree pattern (tree_of e) (trees_of_row body)
   tree_of (code.Try' p shape body pattern q shape2 handler) = try_tree (trees_of_row body) pattern (trees_of_row handler)
-  tree_of (code.Throw' p e) = throw_tree (tree_of e)
+  tree_of (code.Primitive' q p e) = primitive q (tree_of e)
   tree_of (code.Object' pattern p shape ms) = object_tree pattern (methods_of_row ms)
   tree_of (code.Escape' x p shape body) = escape_tree x (trees_of_row body)
   tree_of (code.Send' p r verb q shape args) = send (tree_of r) verb (trees_of_row args)
   tree_of (code.When' p e q shape body) = when_tree (tree_of e) (trees_of_row body)
   tree_of (code.WhenCatch' p e q shape body pattern r shape2 handler) = when_catch_tree (tree_of e) (trees_of_row body) pattern (trees_of_row handler)
   tree_of code.NewPromise = new_promise
-  tree_of (code.BreakRef' p e) = break_ref (tree_of e)
-  tree_of (code.StateRef' p e) = state_ref (tree_of e)
 
   pub trees_of_row : {n : _} → code.Row_of-Expr n → Trees
   trees_of_row code.end_of-Expr = none

@@ -69,12 +69,10 @@ fn write_beginning(e: &Expr, out: &mut String) -> Result<(), AllocError>
         Expr::While(condition, _) => write_part("while (", condition, out),
         Expr::For(pattern, _, _) => write_bound("for ", pattern, out),
         Expr::Try(body, _, _) => write_block("try ", body, out),
-        Expr::Throw(problem) => write_part("throw(", problem, out),
+        Expr::Primitive(primitive, value) => write_part(primitive.words(), value, out),
         Expr::Escape(name, _) => write_name("escape ", name, out),
         Expr::When(value, _) | Expr::WhenCatch(value, _, _, _) => write_part("when (", value, out),
         Expr::NewPromise => out.push_str("Ref.promise()"),
-        Expr::BreakRef(problem) => write_part("Ref.broken(", problem, out),
-        Expr::StateRef(value) => write_part("Ref.state(", value, out),
     }
 }
 
@@ -112,7 +110,7 @@ fn write_rest(e: &Expr, out: &mut String) -> Result<(), AllocError>
             write_block(" ", body, out)
         }
         Expr::Try(_, pattern, handler) => write_catch(pattern, handler, out),
-        Expr::Throw(_) | Expr::BreakRef(_) | Expr::StateRef(_) => out.push_str(")"),
+        Expr::Primitive(_, _) => out.push_str(")"),
         Expr::Object(_, methods) => write_methods(methods, out),
         Expr::Escape(_, body) => write_block(" ", body, out),
         Expr::When(_, body) => write_block(") -> ", body, out),
@@ -293,15 +291,13 @@ fn needs_brackets(e: &Expr) -> bool
         | Expr::While(_, _)
         | Expr::For(_, _, _)
         | Expr::Try(_, _, _)
-        | Expr::Throw(_)
+        | Expr::Primitive(_, _)
         | Expr::Object(_, _)
         | Expr::Escape(_, _)
         | Expr::Send(_, _, _)
         | Expr::When(_, _)
         | Expr::WhenCatch(_, _, _, _)
-        | Expr::NewPromise
-        | Expr::BreakRef(_)
-        | Expr::StateRef(_) => false,
+        | Expr::NewPromise => false,
     }
 }
 
@@ -318,14 +314,12 @@ fn is_bare_receiver(e: &Expr) -> bool
         | Expr::While(_, _)
         | Expr::For(_, _, _)
         | Expr::Try(_, _, _)
-        | Expr::Throw(_)
+        | Expr::Primitive(_, _)
         | Expr::Object(_, _)
         | Expr::Escape(_, _)
         | Expr::When(_, _)
         | Expr::WhenCatch(_, _, _, _)
-        | Expr::NewPromise
-        | Expr::BreakRef(_)
-        | Expr::StateRef(_) => false,
+        | Expr::NewPromise => false,
         Expr::Null
         | Expr::Bool(_)
         | Expr::Int(_)

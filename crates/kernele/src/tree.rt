@@ -1,5 +1,6 @@
 // Trees of the language, shared where they are held more than once.
 ghost use Rattle.std.specs.Prelude.{◌≡◌, IfOk};
+ghost use Rattle.kernele.specs.Spelling.{primitive_words};
 ghost use Rattle.kernele.specs.View.{program_of};
 
 use ids::text::Text;
@@ -33,6 +34,30 @@ impl Pattern {
     }
 }
 
+/// What the language itself does with one value.
+#[derive(Clone, Copy, PartialEq, Eq)]
+pub enum Primitive {
+    /// Throws it as a problem.
+    Throw,
+    /// Makes a broken reference, of this problem.
+    BreakRef,
+    /// Tells how far it is known.
+    StateRef,
+}
+
+impl Primitive {
+    /// What stands before the value in the canonical spelling.
+    pub fn words(self) -> &'static str
+        ensures { result.now ≡ primitive_words self }
+    {
+        match self {
+            Primitive::Throw => "throw(",
+            Primitive::BreakRef => "Ref.broken(",
+            Primitive::StateRef => "Ref.state(",
+        }
+    }
+}
+
 /// An expression.
 #[cycle(tree)]
 pub enum Expr {
@@ -58,7 +83,8 @@ pub enum Expr {
     For(Pattern, Arc<Expr>, Arc<Vec<Expr>>),
     /// A body, what its problem is bound to, and the handler.
     Try(Arc<Vec<Expr>>, Pattern, Arc<Vec<Expr>>),
-    Throw(Arc<Expr>),
+    /// A primitive, of the value of this.
+    Primitive(Primitive, Arc<Expr>),
     /// What the object is bound to, and its methods.
     Object(Pattern, Arc<Vec<Method>>),
     /// The name of the ejector, and the block that it ends.
@@ -71,10 +97,6 @@ pub enum Expr {
     WhenCatch(Arc<Expr>, Arc<Vec<Expr>>, Pattern, Arc<Vec<Expr>>),
     /// A promise and its resolver.
     NewPromise,
-    /// A broken value, of this problem.
-    BreakRef(Arc<Expr>),
-    /// How far a value is known.
-    StateRef(Arc<Expr>),
 }
 
 // By hand, so that what drops one elsewhere calls this and is not proved anew for all that it holds.
@@ -99,15 +121,13 @@ impl Drop for Expr {
             | Expr::While(_, _)
             | Expr::For(_, _, _)
             | Expr::Try(_, _, _)
-            | Expr::Throw(_)
+            | Expr::Primitive(_, _)
             | Expr::Object(_, _)
             | Expr::Escape(_, _)
             | Expr::Send(_, _, _)
             | Expr::When(_, _)
             | Expr::WhenCatch(_, _, _, _)
-            | Expr::NewPromise
-            | Expr::BreakRef(_)
-            | Expr::StateRef(_) => {}
+            | Expr::NewPromise => {}
         }
     }
 }

@@ -1,6 +1,6 @@
 -- What a construct does to names, part after part: the parts from the references to them, what the parts give together, and how deep they are.
 use Rattle.std.proofs.Common.{◌≡◌, ◌⊎◌, inl, inr, ℕ, zero, suc, ◌+◌, ◌<◌, ◌≤◌, max, List, [], ◌∷◌, ◌++◌, Ok, Err, length, get_or, drop, ap, sym, refl, ◌∙◌, arith, append-nil, append_assoc}
-use Rattle.kernele.specs.Tree.{Tree, null_tree, bool_tree, int_tree, text_tree, noun, define, variable, assign, call, list_tree, same_tree, define_list, hide, if_tree, while_tree, for_tree, try_tree, throw_tree, object_tree, escape_tree, send, when_tree, when_catch_tree, new_promise, break_ref, state_ref}
+use Rattle.kernele.specs.Tree.{Tree, null_tree, bool_tree, int_tree, text_tree, noun, define, variable, assign, call, list_tree, same_tree, define_list, hide, if_tree, while_tree, for_tree, try_tree, primitive, object_tree, escape_tree, send, when_tree, when_catch_tree, new_promise}
 use Rattle.kernele.specs.View.{tree_of, trees_of, methods_of}
 use Rattle.kernele.proofs.Walks.{tree_is_call, tree_is_hide, tree_is_if, tree_is_while, tree_is_for, tree_is_try, tree_is_send, tree_is_when, tree_is_when_catch, trees_from, methods_from, no_trees_from, no_methods_from}
 use Rattle.kernele.specs.declared.tree.Expr as code
@@ -69,15 +69,13 @@ checked_in_parts (if_tree c one other) s = refl
 checked_in_parts (while_tree c body) s = ended _
 checked_in_parts (for_tree p e body) s = ended _
 checked_in_parts (try_tree body p handler) s = ended _
-checked_in_parts (throw_tree e) s = ended _ ∙ ended _
+checked_in_parts (primitive q e) s = ended _ ∙ ended _
 checked_in_parts (object_tree p ms) s = ended _
 checked_in_parts (escape_tree x body) s = ended _ ∙ ended _
 checked_in_parts (send r verb args) s = ended _
 checked_in_parts (when_tree e body) s = ended _
 checked_in_parts (when_catch_tree e body p handler) s = refl
 checked_in_parts new_promise s = refl
-checked_in_parts (break_ref e) s = ended _ ∙ ended _
-checked_in_parts (state_ref e) s = ended _ ∙ ended _
 
 -- the same from its first part on
 pub first_left : (t : Tree) (s : Scopes) {one : NamePart} → one ≡ first t → checked t s ≡ in_turn (in_turn (part_checked one s) (part_checked (second t))) (part_checked (third t))
@@ -110,15 +108,13 @@ names_in_parts (if_tree c one other) = simp append-nil
 names_in_parts (while_tree c body) = simp append-nil
 names_in_parts (for_tree p e body) = simp append-nil
 names_in_parts (try_tree body p handler) = refl
-names_in_parts (throw_tree e) = simp append-nil
+names_in_parts (primitive q e) = simp append-nil
 names_in_parts (object_tree p ms) = simp append-nil
 names_in_parts (escape_tree x body) = refl
 names_in_parts (send r verb args) = simp append-nil
 names_in_parts (when_tree e body) = simp append-nil
 names_in_parts (when_catch_tree e body p handler) = simp append-nil
 names_in_parts new_promise = refl
-names_in_parts (break_ref e) = simp append-nil
-names_in_parts (state_ref e) = simp append-nil
 
 -- what the third part of a tree adds to the names of the others, the tree adds
 pub names_left : (t : Tree) (was : List TopName) {one two three : NamePart} {now all : List TopName} → one ≡ first t → now ≡ was ++ part_names one → two ≡ second t → all ≡ now ++ part_names two → three ≡ third t → all ++ part_names three ≡ was ++ own_names t
@@ -148,15 +144,13 @@ free_in_parts (if_tree c one other) bs = simp append-nil
 free_in_parts (while_tree c body) bs = simp append-nil
 free_in_parts (for_tree p e body) bs = simp append-nil
 free_in_parts (try_tree body p handler) bs = simp append-nil
-free_in_parts (throw_tree e) bs = simp append-nil
+free_in_parts (primitive q e) bs = simp append-nil
 free_in_parts (object_tree p ms) bs = simp append-nil
 free_in_parts (escape_tree x body) bs = simp append-nil
 free_in_parts (send r verb args) bs = simp append-nil
 free_in_parts (when_tree e body) bs = simp append-nil
 free_in_parts (when_catch_tree e body p handler) bs = simp append-nil
 free_in_parts new_promise bs = refl
-free_in_parts (break_ref e) bs = simp append-nil
-free_in_parts (state_ref e) bs = simp append-nil
 
 -- a tree is a node, and what its parts have
 pub nodes_in_parts : (t : Tree) → nodes t ≡ 1 + (part_nodes (first t) + (part_nodes (second t) + part_nodes (third t)))
@@ -177,15 +171,13 @@ nodes_in_parts (if_tree c one other) = omega arith
 nodes_in_parts (while_tree c body) = omega arith
 nodes_in_parts (for_tree p e body) = omega arith
 nodes_in_parts (try_tree body p handler) = omega arith
-nodes_in_parts (throw_tree e) = omega arith
+nodes_in_parts (primitive q e) = omega arith
 nodes_in_parts (object_tree p ms) = omega arith
 nodes_in_parts (escape_tree x body) = omega arith
 nodes_in_parts (send r verb args) = omega arith
 nodes_in_parts (when_tree e body) = omega arith
 nodes_in_parts (when_catch_tree e body p handler) = omega arith
 nodes_in_parts new_promise = omega arith
-nodes_in_parts (break_ref e) = omega arith
-nodes_in_parts (state_ref e) = omega arith
 
 -- its parts stand below it
 pub depth_in_parts : (t : Tree) → depth t ≡ 1 + max (part_depth (first t)) (max (part_depth (second t)) (part_depth (third t)))
@@ -206,15 +198,13 @@ depth_in_parts (if_tree c one other) = omega arith
 depth_in_parts (while_tree c body) = omega arith
 depth_in_parts (for_tree p e body) = omega arith
 depth_in_parts (try_tree body p handler) = omega arith
-depth_in_parts (throw_tree e) = omega arith
+depth_in_parts (primitive q e) = omega arith
 depth_in_parts (object_tree p ms) = omega arith
 depth_in_parts (escape_tree x body) = omega arith
 depth_in_parts (send r verb args) = omega arith
 depth_in_parts (when_tree e body) = omega arith
 depth_in_parts (when_catch_tree e body p handler) = omega arith
 depth_in_parts new_promise = omega arith
-depth_in_parts (break_ref e) = omega arith
-depth_in_parts (state_ref e) = omega arith
 
 pub first_is_lower : (t : Tree) → part_depth (first t) < depth t
 first_is_lower t = let is = depth_in_parts t in omega arith

@@ -1,6 +1,6 @@
 -- What a check adds to the scopes.
 use Rattle.std.proofs.Common.{◌≡◌, List, [], ◌∷◌, ◌++◌, Bool, true, false, Option, Some, None, Ok, Err, ap, sym, refl, ◌∙◌, cond, length}
-use Rattle.kernele.specs.Tree.{Name, Tree, null_tree, bool_tree, int_tree, text_tree, noun, define, variable, assign, call, list_tree, same_tree, define_list, hide, if_tree, while_tree, for_tree, try_tree, throw_tree, object_tree, escape_tree, send, when_tree, when_catch_tree, new_promise, break_ref, state_ref, Trees, none, and_then, Methods, no_methods, and_method}
+use Rattle.kernele.specs.Tree.{Name, Tree, null_tree, bool_tree, int_tree, text_tree, noun, define, variable, assign, call, list_tree, same_tree, define_list, hide, if_tree, while_tree, for_tree, try_tree, primitive, object_tree, escape_tree, send, when_tree, when_catch_tree, new_promise, Trees, none, and_then, Methods, no_methods, and_method}
 use Rattle.kernele_scopes.specs.Scope.{Names, Scopes, Refusal, Checked, in_turn, added, bound, all_bound, entered, left_for, in_block, checked_with, checked_taking, checked_methods, Signature, new_method, assigned, assigned_to, kind_in, checked, checked_all, with_names, with_name, defined_name, variable_name, name_of, names_of_all, own_names, own_names_in}
 use Rattle.kernele.specs.declared.tree.Pattern.{Pattern}
 use Rattle.kernele.specs.declared.tree.Pattern.TheVariants as pattern
@@ -112,7 +112,7 @@ mutual
   grows (try_tree body p handler) s r e =
       in_first (in_block (checked_all body) s) (in_block (checked_with p (checked_all handler))) [] s r
       (λ q. block_grows (checked_all body (entered s)) s q) (λ q. block_grows (checked_with p (checked_all handler) (entered q)) q r) e
-  grows (throw_tree t) s r e = grows t s r e
+  grows (primitive q t) s r e = grows t s r e
   grows (object_tree p ms) s r e = in_first (bound p s) (checked_methods [] ms) (name_of p) s r (λ q. bound_grows p s q) (λ q. methods_grow [] ms q r) e
   grows (escape_tree x body) s r e = block_grows (checked_with (pattern.Name x) (checked_all body) (entered s)) s r e
   grows (send t verb args) s r e = in_both (checked t s) (checked_all args) (own_names t) (own_names_in args) s r (grows t s) (λ q. all_grow args q r) e
@@ -122,8 +122,6 @@ mutual
       (λ v. in_first (checked t s) (in_block (checked_all body)) (own_names t) s v (grows t s) (λ q. block_grows (checked_all body (entered q)) q v))
       (λ q. block_grows (checked_with p (checked_all handler) (entered q)) q r) e
   grows new_promise s r e = same_scopes e
-  grows (break_ref t) s r e = grows t s r e
-  grows (state_ref t) s r e = grows t s r e
 
   -- so do trees in order
   pub all_grow : (ts : Trees) (s r : Scopes) → checked_all ts s ≡ Ok r → r ≡ grown (own_names_in ts) s

@@ -1,7 +1,7 @@
 -- The check is that of the rules of scope: it passes what is right throughout, and tells the first fault of the rest.
 use Rattle.std.proofs.Common.{◌≡◌, ◌⊎◌, ◌↔◌, inl, inr, ◌≤◌, List, [], ◌∷◌, ◌++◌, Bool, true, false, if◌then◌else◌, nat_lt, Ok, Err, IsOk, length, ap, sym, refl, ◌∙◌, subst, arith}
 use Rattle.std.proofs.lemmas.Bool.{ltb-true, ltb-false, false≢true}
-use Rattle.kernele.specs.Tree.{Name, Tree, null_tree, bool_tree, int_tree, text_tree, noun, define, variable, assign, call, list_tree, same_tree, define_list, hide, if_tree, while_tree, for_tree, try_tree, throw_tree, object_tree, escape_tree, send, when_tree, when_catch_tree, new_promise, break_ref, state_ref, Trees, none, and_then, Methods, no_methods, and_method}
+use Rattle.kernele.specs.Tree.{Name, Tree, null_tree, bool_tree, int_tree, text_tree, noun, define, variable, assign, call, list_tree, same_tree, define_list, hide, if_tree, while_tree, for_tree, try_tree, primitive, object_tree, escape_tree, send, when_tree, when_catch_tree, new_promise, Trees, none, and_then, Methods, no_methods, and_method}
 use Rattle.kernele.specs.declared.tree.Pattern.{Pattern}
 use Rattle.kernele.specs.declared.tree.Pattern.TheVariants as pattern
 use Rattle.kernele_scopes.specs.Scope.{Scopes, Checked, Refusal, too_long, too_deep, in_turn, in_block, assigned, added, bound, all_bound, checked_with, checked_taking, checked, checked_all, checked_methods, checked_program, Signature, new_method, defined_name, variable_name, name_of, names_of_all, nodes_in, depth_in, script_scopes, asked_scopes}
@@ -40,7 +40,7 @@ mutual
   even_tree (try_tree body p handler) =
       even_append (braced (happens_in body)) (braced (defining (name_of p) ++ happens_in handler)) (even_braced (happens_in body) (even_trees body))
       (even_braced (defining (name_of p) ++ happens_in handler) (even_append (defining (name_of p)) (happens_in handler) (even_defining (name_of p)) (even_trees handler)))
-  even_tree (throw_tree e) = even_tree e
+  even_tree (primitive q e) = even_tree e
   even_tree (object_tree p ms) = even_append (defining (name_of p)) (braced (happens_of ms)) (even_defining (name_of p)) (even_braced (happens_of ms) (even_methods ms))
   even_tree (escape_tree x body) = even_braced (defines (defined_name x) ∷ happens_in body) (even_append (defines (defined_name x) ∷ []) (happens_in body) (even_one (defines (defined_name x)) (λ p. refl)) (even_trees body))
   even_tree (send r verb args) = even_append (happens r) (happens_in args) (even_tree r) (even_trees args)
@@ -50,8 +50,6 @@ mutual
       (even_append (happens e) (braced (happens_in body)) (even_tree e) (even_braced (happens_in body) (even_trees body)))
       (even_braced (defining (name_of p) ++ happens_in handler) (even_append (defining (name_of p)) (happens_in handler) (even_defining (name_of p)) (even_trees handler)))
   even_tree new_promise = even_nil
-  even_tree (break_ref e) = even_tree e
-  even_tree (state_ref e) = even_tree e
 
   even_trees : (ts : Trees) → IsEven (happens_in ts)
   even_trees none = even_nil
@@ -96,7 +94,7 @@ mutual
       then_block past (braced (happens_in body)) (defining (name_of p) ++ happens_in handler) (in_block (checked_all body) s) (checked_with p (checked_all handler)) (even_with p handler)
       (then_block past [] (happens_in body) (Ok s) (checked_all body) (even_trees body) (says_nothing past s f) (λ v q g. all_say body (opens ∷ v) q g))
       (λ v q g. with_says p handler (λ w r h. all_say handler w r h) (opens ∷ v) q g)
-  says (throw_tree e) past s f = says e past s f
+  says (primitive q e) past s f = says e past s f
   says (object_tree p ms) past s f =
       then_says Fits Fits past (defining (name_of p)) (braced (happens_of ms)) (bound p s) (checked_methods [] ms) (bound_says p past s f)
       (λ q g. object_says (following past (defining (name_of p))) (happens_of ms) q (checked_methods [] ms q) g (even_methods ms)
@@ -111,8 +109,6 @@ mutual
       (then_block past (happens e) (happens_in body) (checked e s) (checked_all body) (even_trees body) (says e past s f) (λ v q g. all_say body (opens ∷ v) q g))
       (λ v q g. with_says p handler (λ w r h. all_say handler w r h) (opens ∷ v) q g)
   says new_promise past s f = says_nothing past s f
-  says (break_ref e) past s f = says e past s f
-  says (state_ref e) past s f = says e past s f
 
   all_say : (ts : Trees) (past : List Happening) (s : Scopes) → Fits past s → Says Fits past (happens_in ts) (checked_all ts s)
   all_say none past s f = says_nothing past s f

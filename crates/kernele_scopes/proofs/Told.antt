@@ -4,7 +4,7 @@ use Rattle.std.specs.Prelude.{All, Contains, IsSome, IsNone}
 use Rattle.std.specs.Option.{option_or}
 use Rattle.std.specs.Str.{bytes_eq}
 use Rattle.std.proofs.lemmas.List.Elements.{All-nil, All-cons, All-append, Contains-append_left, Contains-append_right, Contains-push}
-use Rattle.kernele.specs.Tree.{Name, Tree, null_tree, bool_tree, int_tree, text_tree, noun, define, variable, assign, call, list_tree, same_tree, define_list, hide, if_tree, while_tree, for_tree, try_tree, throw_tree, object_tree, escape_tree, send, when_tree, when_catch_tree, new_promise, break_ref, state_ref, Trees, none, and_then, Methods, no_methods, and_method}
+use Rattle.kernele.specs.Tree.{Name, Tree, null_tree, bool_tree, int_tree, text_tree, noun, define, variable, assign, call, list_tree, same_tree, define_list, hide, if_tree, while_tree, for_tree, try_tree, primitive, object_tree, escape_tree, send, when_tree, when_catch_tree, new_promise, Trees, none, and_then, Methods, no_methods, and_method}
 use Rattle.kernele.specs.declared.tree.Pattern.{Pattern}
 use Rattle.kernele.specs.declared.tree.Pattern.TheVariants as pattern
 use Rattle.kernele_scopes.specs.Scope.{Scopes, Checked, unbound, assign_to_def, duplicate_name, too_deep, too_long, in_turn, kind_in, found, assigned, assigned_to, added, bound, all_bound, with_name, left_for, entered, in_block, checked_with, checked_taking, Signature, has_signature, new_method, checked, checked_all, checked_methods, defined_name, variable_name, name_of, names_of_all, own_names, own_names_in}
@@ -213,7 +213,7 @@ mutual
       tells_same s (in_turn (in_block (checked_all body) q) (in_block (checked_with p (checked_all handler)))) (sym (append-nil bs)) refl
       (then_block s bs ((bs ++ name_of p) ++ own_names_in handler) (free_in body bs) (free_in handler (bs ++ name_of p)) (in_block (checked_all body) q) (checked_with p (checked_all handler))
       (blocked s bs (bs ++ own_names_in body) (free_in body bs) q (checked_all body (entered q)) k (all_tell s body bs (entered q) k)) (λ r known. with_tells s p handler bs r (λ cs v seen. all_tell s handler cs v seen) known))
-  tells s (throw_tree e) bs q k = tells s e bs q k
+  tells s (primitive o e) bs q k = tells s e bs q k
   tells s (object_tree p ms) bs q k =
       in_both s (bs ++ name_of p) (bs ++ name_of p) [] (free_of ms (bs ++ name_of p)) (bound p q) (checked_methods [] ms) (bound_tells s bs p q k) (λ r known. methods_tell s ms [] (bs ++ name_of p) r known)
   tells s (escape_tree x body) bs q k =
@@ -228,8 +228,6 @@ mutual
       (then_block s ds (ds ++ own_names_in body) (free e bs) (free_in body ds) (checked e q) (checked_all body) (tells s e bs q k) (λ r known. all_tell s body ds r known))
       (λ r known. with_tells s p handler ds r (λ cs v seen. all_tell s handler cs v seen) known)
   tells s new_promise bs q k = nothing s bs q k
-  tells s (break_ref e) bs q k = tells s e bs q k
-  tells s (state_ref e) bs q k = tells s e bs q k
 
   all_tell : (s : Scopes) (ts : Trees) (bs : List TopName) (q : Scopes) → Knows s bs q → Tells s (bs ++ own_names_in ts) (free_in ts bs) (checked_all ts q)
   all_tell s none bs q k = nothing s bs q k

@@ -1,6 +1,6 @@
 -- The rules of scope, said of what happens to names in a program, one thing after the other: where a name is bound, and what is wrong.
 use Rattle.std.specs.Prelude.{◌≡◌, ◌⊎◌, ◌↔◌, ℕ, zero, suc, ◌<◌, ◌≤◌, List, [], ◌∷◌, ◌++◌, map, length, Option, Some, None, Err, IsOk}
-use Rattle.kernele.specs.Tree.{Name, Tree, null_tree, bool_tree, int_tree, text_tree, noun, define, variable, assign, call, list_tree, same_tree, define_list, hide, if_tree, while_tree, for_tree, try_tree, throw_tree, object_tree, escape_tree, send, when_tree, when_catch_tree, new_promise, break_ref, state_ref, Trees, none, and_then, Methods, no_methods, and_method}
+use Rattle.kernele.specs.Tree.{Name, Tree, null_tree, bool_tree, int_tree, text_tree, noun, define, variable, assign, call, list_tree, same_tree, define_list, hide, if_tree, while_tree, for_tree, try_tree, primitive, object_tree, escape_tree, send, when_tree, when_catch_tree, new_promise, Trees, none, and_then, Methods, no_methods, and_method}
 use Rattle.kernele_scopes.specs.Scope.{Scopes, script_scopes, asked_scopes, checked_program, Refusal, unbound, assign_to_def, duplicate_name, too_deep, too_long, Signature, nodes_in, depth_in, defined_name, variable_name, name_of, names_of_all, definitions}
 use Rattle.kernele_scopes.specs.declared.naming.NameKind.{NameKind}
 use Rattle.kernele_scopes.specs.declared.naming.NameKind.TheVariants as kind
@@ -50,15 +50,13 @@ abbrev mutual
   happens (while_tree c body) = happens c ++ braced (happens_in body)
   happens (for_tree p e body) = happens e ++ braced (defining (name_of p) ++ happens_in body)
   happens (try_tree body p handler) = braced (happens_in body) ++ braced (defining (name_of p) ++ happens_in handler)
-  happens (throw_tree e) = happens e
+  happens (primitive q e) = happens e
   happens (object_tree p ms) = defining (name_of p) ++ braced (happens_of ms)
   happens (escape_tree x body) = braced (defines (defined_name x) ∷ happens_in body)
   happens (send r verb args) = happens r ++ happens_in args
   happens (when_tree e body) = happens e ++ braced (happens_in body)
   happens (when_catch_tree e body p handler) = happens e ++ braced (happens_in body) ++ braced (defining (name_of p) ++ happens_in handler)
   happens new_promise = []
-  happens (break_ref e) = happens e
-  happens (state_ref e) = happens e
 
   pub happens_in : Trees → List Happening
   happens_in none = []

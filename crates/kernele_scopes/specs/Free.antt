@@ -2,7 +2,7 @@
 -- its blocks.
 use Rattle.std.specs.Prelude.{◌≡◌, List, [], ◌∷◌, ◌++◌, Bool, true, false, if◌then◌else◌, Ok, Err, All, Contains, IsSome, IsNone}
 use Rattle.std.specs.Str.{bytes_eq}
-use Rattle.kernele.specs.Tree.{Name, Tree, null_tree, bool_tree, int_tree, text_tree, noun, define, variable, assign, call, list_tree, same_tree, define_list, hide, if_tree, while_tree, for_tree, try_tree, throw_tree, object_tree, escape_tree, send, when_tree, when_catch_tree, new_promise, break_ref, state_ref, Trees, none, and_then, Methods, no_methods, and_method}
+use Rattle.kernele.specs.Tree.{Name, Tree, null_tree, bool_tree, int_tree, text_tree, noun, define, variable, assign, call, list_tree, same_tree, define_list, hide, if_tree, while_tree, for_tree, try_tree, primitive, object_tree, escape_tree, send, when_tree, when_catch_tree, new_promise, Trees, none, and_then, Methods, no_methods, and_method}
 use Rattle.kernele_scopes.specs.Scope.{Scopes, unbound, kind_in, checked_all, defined_name, name_of, names_of_all, own_names}
 use Rattle.kernele.specs.declared.tree.Pattern.{Pattern}
 use Rattle.kernele_scopes.specs.declared.naming.TopName.{TopName}
@@ -38,15 +38,13 @@ abbrev mutual
   free (while_tree c body) bs = free c bs ++ free_in body (bs ++ own_names c)
   free (for_tree p e body) bs = free e bs ++ free_in body ((bs ++ own_names e) ++ name_of p)
   free (try_tree body p handler) bs = free_in body bs ++ free_in handler (bs ++ name_of p)
-  free (throw_tree e) bs = free e bs
+  free (primitive q e) bs = free e bs
   free (object_tree p ms) bs = free_of ms (bs ++ name_of p)
   free (escape_tree x body) bs = free_in body (bs ++ defined_name x ∷ [])
   free (send r verb args) bs = free r bs ++ free_in args (bs ++ own_names r)
   free (when_tree e body) bs = free e bs ++ free_in body (bs ++ own_names e)
   free (when_catch_tree e body p handler) bs = free e bs ++ free_in body (bs ++ own_names e) ++ free_in handler ((bs ++ own_names e) ++ name_of p)
   free new_promise bs = []
-  free (break_ref e) bs = free e bs
-  free (state_ref e) bs = free e bs
 
   pub free_in : Trees → List TopName → List Name
   free_in none bs = []

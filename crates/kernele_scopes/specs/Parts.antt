@@ -1,6 +1,6 @@
 -- What a construct does to names, part after part, in the order in which it is evaluated.
 use Rattle.std.specs.Prelude.{ℕ, List, [], ◌∷◌, ◌++◌, Ok}
-use Rattle.kernele.specs.Tree.{Name, Tree, null_tree, bool_tree, int_tree, text_tree, noun, define, variable, assign, call, list_tree, same_tree, define_list, hide, if_tree, while_tree, for_tree, try_tree, throw_tree, object_tree, escape_tree, send, when_tree, when_catch_tree, new_promise, break_ref, state_ref, Trees, Methods}
+use Rattle.kernele.specs.Tree.{Name, Tree, null_tree, bool_tree, int_tree, text_tree, noun, define, variable, assign, call, list_tree, same_tree, define_list, hide, if_tree, while_tree, for_tree, try_tree, primitive, object_tree, escape_tree, send, when_tree, when_catch_tree, new_promise, Trees, Methods}
 use Rattle.kernele.specs.View.{tree_of, trees_of, methods_of}
 use Rattle.kernele.specs.declared.tree.Pattern.{Pattern}
 use Rattle.kernele_scopes.specs.Scope.{Scopes, Checked, in_turn, in_block, found, assigned, added, bound, all_bound, checked, checked_all, checked_methods, defined_name, variable_name, name_of, names_of_all, own_names, own_names_in, nodes, nodes_in, nodes_of, depth, depth_in, depth_of}
@@ -54,15 +54,13 @@ first (if_tree c one other) = evaluate c
 first (while_tree c body) = evaluate c
 first (for_tree p e body) = evaluate e
 first (try_tree body p handler) = block no_names_bound body
-first (throw_tree e) = evaluate e
+first (primitive q e) = evaluate e
 first (object_tree p ms) = bind (pattern_bound p)
 first (escape_tree x body) = block (definition_bound x) body
 first (send r verb args) = evaluate r
 first (when_tree e body) = evaluate e
 first (when_catch_tree e body p handler) = evaluate e
 first new_promise = nothing
-first (break_ref e) = evaluate e
-first (state_ref e) = evaluate e
 
 abbrev pub second : Tree → NamePart
 second null_tree = nothing
@@ -82,15 +80,13 @@ second (if_tree c one other) = block no_names_bound one
 second (while_tree c body) = block no_names_bound body
 second (for_tree p e body) = block (pattern_bound p) body
 second (try_tree body p handler) = block (pattern_bound p) handler
-second (throw_tree e) = nothing
+second (primitive q e) = nothing
 second (object_tree p ms) = methods ms
 second (escape_tree x body) = nothing
 second (send r verb args) = evaluate_all args
 second (when_tree e body) = block no_names_bound body
 second (when_catch_tree e body p handler) = block no_names_bound body
 second new_promise = nothing
-second (break_ref e) = nothing
-second (state_ref e) = nothing
 
 abbrev pub third : Tree → NamePart
 third (assign x e) = assign_to x

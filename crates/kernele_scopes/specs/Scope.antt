@@ -2,7 +2,7 @@
 use Rattle.std.specs.Prelude.{◌≡◌, ℕ, ◌+◌, max, List, [], ◌∷◌, ◌++◌, map, Option, Some, None, is_some, nat_lt, nat_eq, length, Bool, true, false, Result, Ok, Err, if◌then◌else◌}
 use Rattle.std.specs.Option.{option_or}
 use Rattle.std.specs.Str.{bytes_eq}
-use Rattle.kernele.specs.Tree.{Name, Tree, null_tree, bool_tree, int_tree, text_tree, noun, define, variable, assign, call, list_tree, same_tree, define_list, hide, if_tree, while_tree, for_tree, try_tree, throw_tree, object_tree, escape_tree, send, when_tree, when_catch_tree, new_promise, break_ref, state_ref, Trees, none, and_then, Methods, no_methods, and_method}
+use Rattle.kernele.specs.Tree.{Name, Tree, null_tree, bool_tree, int_tree, text_tree, noun, define, variable, assign, call, list_tree, same_tree, define_list, hide, if_tree, while_tree, for_tree, try_tree, primitive, object_tree, escape_tree, send, when_tree, when_catch_tree, new_promise, Trees, none, and_then, Methods, no_methods, and_method}
 use Rattle.kernele.specs.declared.tree.Pattern.{Pattern}
 use Rattle.kernele.specs.declared.tree.Pattern.TheVariants as pattern
 use Rattle.kernele_scopes.specs.declared.naming.NameKind.{NameKind}
@@ -30,15 +30,13 @@ abbrev mutual
   nodes (while_tree c body) = 1 + nodes c + nodes_in body
   nodes (for_tree p e body) = 1 + nodes e + nodes_in body
   nodes (try_tree body p handler) = 1 + nodes_in body + nodes_in handler
-  nodes (throw_tree e) = 1 + nodes e
+  nodes (primitive q e) = 1 + nodes e
   nodes (object_tree p ms) = 1 + nodes_of ms
   nodes (escape_tree x body) = 1 + nodes_in body
   nodes (send r verb args) = 1 + nodes r + nodes_in args
   nodes (when_tree e body) = 1 + nodes e + nodes_in body
   nodes (when_catch_tree e body p handler) = 1 + nodes e + nodes_in body + nodes_in handler
   nodes new_promise = 1
-  nodes (break_ref e) = 1 + nodes e
-  nodes (state_ref e) = 1 + nodes e
 
   pub nodes_in : Trees → ℕ
   nodes_in none = 0
@@ -68,15 +66,13 @@ abbrev mutual
   depth (while_tree c body) = 1 + max (depth c) (depth_in body)
   depth (for_tree p e body) = 1 + max (depth e) (depth_in body)
   depth (try_tree body p handler) = 1 + max (depth_in body) (depth_in handler)
-  depth (throw_tree e) = 1 + depth e
+  depth (primitive q e) = 1 + depth e
   depth (object_tree p ms) = 1 + depth_of ms
   depth (escape_tree x body) = 1 + depth_in body
   depth (send r verb args) = 1 + max (depth r) (depth_in args)
   depth (when_tree e body) = 1 + max (depth e) (depth_in body)
   depth (when_catch_tree e body p handler) = 1 + max (depth e) (max (depth_in body) (depth_in handler))
   depth new_promise = 1
-  depth (break_ref e) = 1 + depth e
-  depth (state_ref e) = 1 + depth e
 
   pub depth_in : Trees → ℕ
   depth_in none = 0
@@ -240,15 +236,13 @@ abbrev mutual
   checked (while_tree c body) s = in_turn (checked c s) (in_block (checked_all body))
   checked (for_tree p e body) s = in_turn (checked e s) (in_block (checked_with p (checked_all body)))
   checked (try_tree body p handler) s = in_turn (in_block (checked_all body) s) (in_block (checked_with p (checked_all handler)))
-  checked (throw_tree e) s = checked e s
+  checked (primitive q e) s = checked e s
   checked (object_tree p ms) s = in_turn (bound p s) (checked_methods [] ms)
   checked (escape_tree x body) s = in_block (checked_with (pattern.Name x) (checked_all body)) s
   checked (send r verb args) s = in_turn (checked r s) (checked_all args)
   checked (when_tree e body) s = in_turn (checked e s) (in_block (checked_all body))
   checked (when_catch_tree e body p handler) s = in_turn (in_turn (checked e s) (in_block (checked_all body))) (in_block (checked_with p (checked_all handler)))
   checked new_promise s = Ok s
-  checked (break_ref e) s = checked e s
-  checked (state_ref e) s = checked e s
 
   pub checked_all : Trees → Scopes → Checked
   checked_all none s = Ok s
@@ -300,15 +294,13 @@ abbrev mutual
   own_names (while_tree c body) = own_names c
   own_names (for_tree p e body) = own_names e
   own_names (try_tree body p handler) = []
-  own_names (throw_tree e) = own_names e
+  own_names (primitive q e) = own_names e
   own_names (object_tree p ms) = name_of p
   own_names (escape_tree x body) = []
   own_names (send r verb args) = own_names r ++ own_names_in args
   own_names (when_tree e body) = own_names e
   own_names (when_catch_tree e body p handler) = own_names e
   own_names new_promise = []
-  own_names (break_ref e) = own_names e
-  own_names (state_ref e) = own_names e
 
   pub own_names_in : Trees → List TopName
   own_names_in none = []

@@ -1,8 +1,8 @@
 // The check of a program before it is evaluated.
-ghost use Rattle.std.specs.Prelude.{◌≡◌, ◌++◌, [], map, false, Some, Ok, IsOk, IfOk, IfErr, OnOk, MatchResult};
+ghost use Rattle.std.specs.Prelude.{◌≡◌, ◌++◌, [], map, false, Some, Ok, IsOk, IfOk, IfErr, OnOk};
 ghost use Rattle.std.specs.Fmt.{WritesOnOk};
 ghost use Rattle.kernele.specs.View.{tree_of, trees_of, methods_of, program_of};
-ghost use Rattle.kernele_scopes.specs.Scope.{checked, checked_all, checked_methods, checked_program, found, assigned, added, bound, all_bound, entered, in_block, same_signature, has_signature, script_scopes, asked_scopes, names_in, definitions, kind_in, with_name};
+ghost use Rattle.kernele_scopes.specs.Scope.{checked, checked_all, checked_methods, checked_program, found, assigned, added, bound, all_bound, entered, in_block, same_signature, has_signature, script_scopes, asked_scopes, names_in, definitions, kind_in};
 ghost use Rattle.kernele_scopes.specs.Check.{Gives, Refuses, fault_text, MayRefuse, names_of, scopes_of, scopes_in, scopes_with, signature_of};
 ghost use Rattle.kernele_scopes.specs.Parts.{part_checked, part_in, binding_checked, binding_in, checked_behind};
 ghost use Rattle.kernele_scopes.specs.declared.checking.CheckFault.TheVariants.{Memory};

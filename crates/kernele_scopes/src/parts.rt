@@ -52,12 +52,10 @@ pub(crate) fn first_part(e: &Expr) -> NamePart<'_>
         | Expr::If(e, _, _)
         | Expr::While(e, _)
         | Expr::For(_, e, _)
-        | Expr::Throw(e)
+        | Expr::Primitive(_, e)
         | Expr::Send(e, _, _)
         | Expr::When(e, _)
-        | Expr::WhenCatch(e, _, _, _)
-        | Expr::BreakRef(e)
-        | Expr::StateRef(e) => NamePart::Evaluate(e),
+        | Expr::WhenCatch(e, _, _, _) => NamePart::Evaluate(e),
         Expr::List(items) => NamePart::EvaluateAll(items),
         Expr::Hide(body) | Expr::Try(body, _, _) => NamePart::Block(AddedNames::Nothing, body),
         Expr::Object(pattern, _) => NamePart::Bind(AddedNames::Pattern(pattern)),
@@ -90,11 +88,9 @@ pub(crate) fn second_part(e: &Expr) -> NamePart<'_>
         | Expr::Noun(_)
         | Expr::List(_)
         | Expr::Hide(_)
-        | Expr::Throw(_)
+        | Expr::Primitive(_, _)
         | Expr::Escape(_, _)
-        | Expr::NewPromise
-        | Expr::BreakRef(_)
-        | Expr::StateRef(_) => NamePart::Nothing,
+        | Expr::NewPromise => NamePart::Nothing,
     }
 }
 
@@ -123,13 +119,11 @@ pub(crate) fn third_part(e: &Expr) -> NamePart<'_>
         | Expr::While(_, _)
         | Expr::For(_, _, _)
         | Expr::Try(_, _, _)
-        | Expr::Throw(_)
+        | Expr::Primitive(_, _)
         | Expr::Object(_, _)
         | Expr::Escape(_, _)
         | Expr::Send(_, _, _)
         | Expr::When(_, _)
-        | Expr::NewPromise
-        | Expr::BreakRef(_)
-        | Expr::StateRef(_) => NamePart::Nothing,
+        | Expr::NewPromise => NamePart::Nothing,
     }
 }

@@ -1,6 +1,5 @@
 // What is known of vats by their names.
 ghost use Rattle.std.specs.Prelude.{◌≡◌, IfOk};
-ghost use Rattle.std.specs.Arc.{arc_value};
 ghost use Rattle.kernele_scopes.specs.Check.{scopes_of};
 ghost use Rattle.kernele_scopes.specs.Scope.{asked_scopes};
 

@@ -1,5 +1,5 @@
 // What a `when` waits for, and what it runs.
-ghost use Rattle.std.specs.Prelude.{◌≡◌, ◌↔◌, ◌++◌, false, IfOk, IsTrue};
+ghost use Rattle.std.specs.Prelude.{◌≡◌, ◌↔◌, false, IfOk, IsTrue};
 ghost use Rattle.code.specs.Frames.{fits_all};
 ghost use Rattle.code.specs.Props.{fits_all-prop};
 ghost use Rattle.code.specs.View.{trees_of_codes};

@@ -1,5 +1,5 @@
 // What comes into a vat under a turn.
-ghost use Rattle.std.specs.Prelude.{◌≡◌, IfOk, OnOk};
+ghost use Rattle.std.specs.Prelude.{IfOk, OnOk};
 ghost use Rattle.values.specs.View.{val_of, vals_of};
 ghost use Rattle.sends.specs.Vats.{nothing, value_of as the_value_of, references, references_in, names_for, end_joined, comes_in, brought, all_brought, received, arrived, coming_in};
 ghost use Rattle.sends.specs.Playing.{Did, IsSameTurn};

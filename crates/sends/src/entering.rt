@@ -1,5 +1,5 @@
 // What is entered in a vat's view under a turn.
-ghost use Rattle.std.specs.Prelude.{◌≡◌, IfOk};
+ghost use Rattle.std.specs.Prelude.{IfOk};
 ghost use Rattle.values.specs.View.{val_of};
 ghost use Rattle.sends.specs.Vats.{entered};
 ghost use Rattle.sends.specs.Making.{entered_if_come};

@@ -1,5 +1,5 @@
 // References that leave a vat with their fences.
-ghost use Rattle.std.specs.Prelude.{◌≡◌, [], IfOk};
+ghost use Rattle.std.specs.Prelude.{[], IfOk};
 ghost use Rattle.values.specs.View.{val_of, vals_of};
 ghost use Rattle.sends.specs.Vats.{carried, leaving, references, references_in};
 ghost use Rattle.sends.specs.Playing.{Did, IsSameTurn};

@@ -1,6 +1,6 @@
 -- From what the parts answer to what the definition allows.
 use Rattle.std.proofs.Common.{◌≡◌, inl, inr, ℕ, ◌+◌, List, Option, Some, None, Result, Ok, Err, true, false, ◌||◌, refl, subst, sym, ap, ◌∙◌}
-use Rattle.std.specs.Prelude.{codes, IfOk, IsSome, Bool}
+use Rattle.std.specs.Prelude.{codes, IsSome, Bool}
 use Rattle.std.proofs.lemmas.Bool.{false≢true}
 use Rattle.kernele.specs.Tree.{Trees}
 use Rattle.ereader.specs.Texts.{ReadAs}
@@ -8,28 +8,30 @@ use Rattle.ereader.specs.Texts as texts
 use Rattle.ereader.specs.Shown as reading
 use Rattle.ereader.specs.declared.fault.ReadFault.{ReadFault}
 use Rattle.ereader.specs.declared.fault.ReadFault.TheVariants as read_fault
-use Rattle.world_cells.specs.Events.{birth, ask, arrive, forward, learn}
+use Rattle.world_cells.specs.Events.{birth, ask}
 use Rattle.event.specs.Events.{Foot, Turn, birth_foot, ask_foot}
 use Rattle.post.specs.Messages.{Vat}
 use Rattle.turn_deliveries.specs.Turn.{Told}
+use Rattle.book_agenda.specs.declared.agenda.Move.{Move}
 use Rattle.book_agenda.specs.declared.agenda.Step.{Step}
 use Rattle.book_agenda.specs.declared.agenda.Step.TheVariants as step
 use Rattle.journal.specs.Lines.{Line}
 use Rattle.causality.specs.Exact.{Cone}
-use Rattle.book.specs.Refusals.{Refusal}
-use Rattle.book.specs.Refusals.{birth_refusal, ask_refusal, arrival_refusal, forward_refusal, learning_refusal, checkout_refusal, undo_refusal, redo_refusal, cone_refusal, exchange_refusal, settle_refusal}
+use Rattle.book_refusals.specs.Refusals.{Refusal}
+use Rattle.book_refusals.specs.Checks.{StoodAt, undo_refusal, redo_refusal, cone_refusal, exchange_refusal, settle_refusal}
+use Rattle.book_refusals.specs.Fault as book
+use Rattle.book_refusals.specs.Fault.{refusal_text, told_by, words_of, TellsThat, Tells}
+use Rattle.book_refusals.specs.declared.fault.BookFault.{BookFault}
+use Rattle.book_refusals.specs.declared.fault.BookFault.TheVariants as fault
+use Rattle.book.specs.Refusals.{birth_refusal, ask_refusal, move_refusal, checkout_refusal}
 use Rattle.book.specs.Books.{Book, settled_lines, open_lines}
-use Rattle.book.specs.Calls.{EntersNext, TurnsNext, Undoes, Redoes, Exchanges, Settles, StoodAt}
+use Rattle.book.specs.Calls.{EntersNext, TurnsNext, Undoes, Redoes, Exchanges, Settles, act_of}
 use Rattle.ids.specs.declared.names.EventName.{EventName}
 use Rattle.ids.specs.declared.names.MsgId.{MsgId}
-use Rattle.ids.specs.declared.names.PromId.{PromId}
 use Rattle.stepper_commands.specs.declared.numbers.PromiseName.{PromiseName}
 use Rattle.book.specs.Learning.{LearnsNamed, TellsNamed}
 use Rattle.ids.specs.declared.names.VatNo.{VatNo}
-use Rattle.book.specs.Fault as book
-use Rattle.book.specs.Fault.{refusal_text, told_by, words_of, TellsThat, Tells, Unturned}
-use Rattle.book.specs.declared.fault.BookFault.{BookFault}
-use Rattle.book.specs.declared.fault.BookFault.TheVariants as fault
+use Rattle.book.specs.TurnFaults.{Unturned}
 use Rattle.stepper.specs.declared.engine.Engine.{Engine}
 use Rattle.book.specs.BookView.{book_of}
 use Rattle.stepper_streams.specs.Outlet as outlet
@@ -41,7 +43,7 @@ use Rattle.stepper_commands.specs.Commands as commands
 use Rattle.stepper_commands.specs.Commands.{Spelled, fault_text}
 use Rattle.stepper_commands.specs.Scripts.{script_of, behind_lines}
 use Rattle.stepper_commands.specs.declared.command.LineFault.{LineFault}
-use Rattle.stepper.specs.Replies.{refused, Answers, ask_without_memory, asked_without_memory, asked_unread, ask_refused, Moves, move_without_memory, arrival_refused, arrives, forwarding_refused, forwards, turn_without_memory_named, turn_refused, turns, learning_refused, learns, learn_without_memory, learn_refused, learn_accepted, EnabledIn, enabled, enabled_without_memory, done_text, count_of, undone_text, redone_text, listed, logged, logged_text, cone_found, undo_cone_found, cone_without_memory, cone_refused, undo_without_memory, undo_refused, undo_accepted, undo_cone_without_memory, undo_cone_refused, redo_without_memory, redo_refused, redo_accepted, exchange_refused, exchange_accepted, settle_without_memory, settle_refused, settle_accepted, exchanged_text, settled_text, AnswersBirth, birth_without_memory, script_without_memory, script_unread, birth_refused, birth_accepted, ask_accepted, queued_text, turned_text, FirstReply, born, answered, script_refused}
+use Rattle.stepper.specs.Replies.{refused, Answers, ask_without_memory, asked_without_memory, asked_unread, ask_refused, Moves, move_without_memory, move_refused, move_made, turn_without_memory_named, turn_refused, turns, learn_without_memory, learn_refused, learn_accepted, EnabledIn, enabled, enabled_without_memory, done_text, count_of, undone_text, redone_text, listed, logged, logged_text, cone_found, undo_cone_found, cone_without_memory, cone_refused, undo_without_memory, undo_refused, undo_accepted, undo_cone_without_memory, undo_cone_refused, redo_without_memory, redo_refused, redo_accepted, exchange_refused, exchange_accepted, settle_without_memory, settle_refused, settle_accepted, exchanged_text, settled_text, AnswersBirth, birth_without_memory, script_without_memory, script_unread, birth_refused, birth_accepted, ask_accepted, queued_text, turned_text, FirstReply, born, answered}
 use Rattle.causewaylog.specs.Turns.{live_in}
 use Rattle.causewaylog.specs.Log.{log_text}
 use Rattle.stepper_printing.specs.Listing.{journal_text, cone_text}
@@ -81,29 +83,17 @@ module _ (limits : Limits) (b : Book) where
   pub ask_not_read : (x text : List ℕ) (f : ReadFault) → texts.Answers text (Err f) → Answers limits b (commands.ask x text) (refused (reading.shown f)) true b
   ask_not_read x text f h = unread f text (λ words. Answers limits b (commands.ask x text) (refused words) true b) h (λ k. asked_unread k) asked_without_memory
 
-  -- a move that the book refuses
-  move_fails : {s : Step} (o : Option Refusal) → ((r : Refusal) → o ≡ Some r → Moves limits b s (refused (refusal_text r)) true b) → (f : BookFault) {d : Book} → Tells f o → d ≡ b
+  -- a step that the book refuses
+  step_fails : {s : Step} (o : Option Refusal) → ((r : Refusal) → o ≡ Some r → Moves limits b s (refused (refusal_text r)) true b) → (f : BookFault) {d : Book} → Tells f o → d ≡ b
       → Moves limits b s (refused (book.fault_text f)) true d
-  move_fails {s = s} o refuses f t stays =
+  step_fails {s = s} o refuses f t stays =
       subst (λ z. Moves limits b s (refused (book.fault_text f)) true z) (sym stays) (told f o (λ words. Moves limits b s (refused words) true b) t refuses move_without_memory)
 
-  pub arrival_fails : {m : MsgId} (f : BookFault) {d : Book} → Tells f (arrival_refusal b m) → d ≡ b → Moves limits b (step.Arrive m) (refused (book.fault_text f)) true d
-  arrival_fails {m = m} f t stays = move_fails (arrival_refusal b m) (λ r e. arrival_refused e) f t stays
+  pub move_fails : {m : Move} (f : BookFault) {d : Book} → Tells f (move_refusal b m) → d ≡ b → Moves limits b (step.Move m) (refused (book.fault_text f)) true d
+  move_fails {m = m} f t stays = step_fails (move_refusal b m) (λ r e. move_refused e) f t stays
 
-  pub arrival_done : {m : MsgId} {e : EventName} {d : Book} → (arrival_refusal b m ≡ None) × ((f : Foot) × EntersNext (record { name = e; act = arrive m }) f 0 b d) → Moves limits b (step.Arrive m) (done_text e) false d
-  arrival_done (none, (f, enters)) = arrives none enters
-
-  pub forwarding_fails : {m : MsgId} (f : BookFault) {d : Book} → Tells f (forward_refusal b m) → d ≡ b → Moves limits b (step.Forward m) (refused (book.fault_text f)) true d
-  forwarding_fails {m = m} f t stays = move_fails (forward_refusal b m) (λ r e. forwarding_refused e) f t stays
-
-  pub forwarding_done : {m : MsgId} {e : EventName} {d : Book} → (forward_refusal b m ≡ None) × ((f : Foot) × EntersNext (record { name = e; act = forward m }) f 0 b d) → Moves limits b (step.Forward m) (done_text e) false d
-  forwarding_done (none, (f, enters)) = forwards none enters
-
-  pub learning_fails : {v : VatNo} {p : PromId} (f : BookFault) {d : Book} → Tells f (learning_refusal b v p) → d ≡ b → Moves limits b (step.Learn v p) (refused (book.fault_text f)) true d
-  learning_fails {v = v} {p = p} f t stays = move_fails (learning_refusal b v p) (λ r e. learning_refused e) f t stays
-
-  pub learning_done : {v : VatNo} {p : PromId} {e : EventName} {d : Book} → (learning_refusal b v p ≡ None) × ((f : Foot) × EntersNext (record { name = e; act = learn v p }) f 0 b d) → Moves limits b (step.Learn v p) (done_text e) false d
-  learning_done (none, (f, enters)) = learns none enters
+  pub move_done : {m : Move} {e : EventName} {d : Book} → (move_refusal b m ≡ None) × ((f : Foot) × EntersNext (record { name = e; act = act_of m }) f 0 b d) → Moves limits b (step.Move m) (done_text e) false d
+  move_done (none, (f, enters)) = move_made none enters
 
   -- a vat learns of a promise that is named without its home
   pub learn_fails : {x y : List ℕ} {n : PromiseName} (f : BookFault) {d : Book} → y ≡ x → TellsNamed f b y n.event n.index → d ≡ b → Answers limits b (commands.learn x n) (refused (book.fault_text f)) true d
@@ -163,7 +153,7 @@ module _ (limits : Limits) (b : Book) where
 
   pub turn_fails : {m : MsgId} (f : BookFault) {d : Book} → Tells f (checkout_refusal b m limits.budget) → Unturned f b d → Moves limits b (step.Turn m) (refused (book.fault_text f)) true d
   turn_fails {m = m} f {d = d} t stays =
-      unturned f d (λ z. Moves limits b (step.Turn m) (refused (book.fault_text f)) true z) stays (move_fails (checkout_refusal b m limits.budget) (λ r e. turn_refused e) f t refl) (named_told {m = m} f)
+      unturned f d (λ z. Moves limits b (step.Turn m) (refused (book.fault_text f)) true z) stays (step_fails (checkout_refusal b m limits.budget) (λ r e. turn_refused e) f t refl) (named_told {m = m} f)
 
   -- the journal as it is
   pub all_listed : {n : ℕ} {lines : List Line} → n ≡ b.settled → lines ≡ b.journal → Answers limits b commands.journal (journal_text n lines) false b

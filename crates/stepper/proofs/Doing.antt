@@ -1,5 +1,5 @@
 -- What is done about the command that a line spells.
-use Rattle.std.proofs.Common.{◌≡◌, ℕ, ◌≤◌, List, [], ◌++◌, Bool, true, false, Option, Some, None, Result, Ok, Err, refl, sym, ap, subst, ◌∙◌, arith}
+use Rattle.std.proofs.Common.{◌≡◌, ℕ, ◌≤◌, List, [], ◌++◌, true, false, Option, Some, None, Result, Ok, Err, refl, sym, ap, subst, ◌∙◌, arith}
 use Rattle.std.proofs.KnownBytes.{Consumes-nil}
 use Rattle.std.specs.declared.string.String.{String}
 use Rattle.std.specs.declared.alloc.Global.{Global}
@@ -7,18 +7,17 @@ use Rattle.book.specs.Books.{Book}
 use Rattle.book.specs.BookView.{book_of}
 use Rattle.stepper_commands.specs.Commands as commands
 use Rattle.stepper_commands.specs.Commands.{Spelled, fault_text}
-use Rattle.stepper_commands.specs.Scripts.{script_of, behind_lines}
 use Rattle.stepper_commands.specs.ScriptView.{IsScript}
 use Rattle.stepper_commands.specs.declared.command.LineFault.{LineFault}
-use Rattle.stepper_streams.specs.Lines.{is_ended, unread, IsSound}
-use Rattle.stepper_streams.specs.Outlet.{is_cut, Tells}
+use Rattle.stepper_streams.specs.Lines.{unread, IsSound}
+use Rattle.stepper_streams.specs.Outlet.{is_cut}
 use Rattle.stepper_streams.specs.declared.lines.Lines.{Lines}
 use Rattle.stepper_streams.specs.declared.outlet.Outlet.{Outlet}
 use Rattle.stepper_streams.proofs.Giving.{tells_none, tells_both, tells_given}
-use Rattle.stepper.specs.Replies.{Answers, AnswersBirth, FirstReply, born, skipped, no_command, refused, script_lines, line_feeds}
+use Rattle.stepper.specs.Replies.{Answers, AnswersBirth, FirstReply, skipped, no_command, refused, script_lines, line_feeds}
 use Rattle.stepper.specs.Engine.{Happens}
 use Rattle.stepper.specs.Written.{Adds}
-use Rattle.stepper.specs.Taking.{Follows, TakesScript, TakesHeld, Does}
+use Rattle.stepper.specs.Taking.{TakesScript, TakesHeld, Does}
 use Rattle.stepper.specs.declared.engine.Engine.{Engine}
 use Rattle.stepper.proofs.Answered.{happens_as, accepts, refuses, answered_at, born_at}
 

@@ -1,9 +1,9 @@
 -- How a run goes on from command to command.
-use Rattle.std.proofs.Common.{◌≡◌, ℕ, List, [], ◌++◌, Bool, true, false, Option, Some, None, Result, Ok, Err, refl, sym, ap, subst, ◌∙◌, append_assoc, append-nil}
+use Rattle.std.proofs.Common.{◌≡◌, ℕ, List, [], ◌++◌, Bool, true, false, Option, Some, None, Result, Ok, Err, refl, sym, subst, ◌∙◌, append_assoc, append-nil}
 use Rattle.std.specs.Prelude.{◌||◌, MatchResult}
 use Rattle.std.specs.Io.KnownBytes.{Consumes, IsAtEnd, prepend_known}
 use Rattle.std.proofs.KnownBytes.{Consumes-nil, Consumes-trans, Consumes-kept}
-use Rattle.book.specs.Books.{Book, blank}
+use Rattle.book.specs.Books.{blank}
 use Rattle.book.specs.BookView.{book_of}
 use Rattle.stepper_commands.specs.Lines.{behind_line}
 use Rattle.stepper_commands.specs.Commands.{Spelled}
@@ -16,8 +16,7 @@ use Rattle.stepper_streams.specs.declared.line.Line.{Line}
 use Rattle.stepper_streams.specs.declared.lines.Lines.{Lines}
 use Rattle.stepper_streams.specs.declared.outlet.Outlet.{Outlet}
 use Rattle.stepper_streams.proofs.Giving.{gives_none, gives_both, cut_behind, gives_as}
-use Rattle.stepper.specs.Replies.{FirstReply, Replies, RepliesToAll, whole_ones, with_last, IsWhole, said, script_lines}
-use Rattle.stepper.specs.Engine.{Happens}
+use Rattle.stepper.specs.Replies.{FirstReply, whole_ones, with_last, IsWhole, said, script_lines}
 use Rattle.stepper.specs.Taking.{StopsAtLine, Does, StopsWithin, AnswersLine, StopsLine, StaysOpen}
 use Rattle.stepper.specs.Runs.{RunsToEnd, RunsToFailedRead, RunsToFailedWrite, RunsOutOfMemory, RunsTo}
 use Rattle.stepper.specs.declared.engine.Engine.{Engine}

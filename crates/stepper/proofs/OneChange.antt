@@ -8,12 +8,12 @@ use Rattle.journal.specs.Lines.{Line}
 use Rattle.journal.proofs.Touching.{same_truth}
 use Rattle.causality.specs.Selections.{name_of, chosen}
 use Rattle.causality.specs.Exact.{Cone}
-use Rattle.book.specs.Refusals.{undo_refusal, redo_refusal, cone_refusal, exchange_refusal, settle_refusal}
+use Rattle.book_refusals.specs.Checks.{StoodAt, undo_refusal, redo_refusal, cone_refusal, exchange_refusal, settle_refusal}
 use Rattle.book.specs.Books.{Book}
-use Rattle.book.specs.Calls.{Undoes, Redoes, Exchanges, StoodAt, rest_of, live_events, redone_in}
+use Rattle.book.specs.Calls.{Undoes, Redoes, Exchanges, rest_of, live_events, redone_in}
 use Rattle.stepper_commands.specs.Commands as command
 use Rattle.stepper_printing.specs.Listing.{cone_text}
-use Rattle.stepper.specs.Replies.{refused, undone_text, redone_text, exchanged_text, Answers, cone_without_memory, cone_refused, cone_found, undo_without_memory, undo_refused, undo_accepted, undo_cone_without_memory, undo_cone_refused, undo_cone_found, redo_without_memory, redo_refused, redo_accepted, exchange_refused, exchange_accepted, settle_without_memory, settle_refused, settle_accepted}
+use Rattle.stepper.specs.Replies.{undone_text, redone_text, exchanged_text, Answers, cone_without_memory, cone_refused, cone_found, undo_without_memory, undo_refused, undo_accepted, undo_cone_without_memory, undo_cone_refused, undo_cone_found, redo_without_memory, redo_refused, redo_accepted, exchange_refused, exchange_accepted, settle_without_memory, settle_refused, settle_accepted}
 use Rattle.stepper.specs.Laws.{SameLines, SameBook, IsForWant, book_without_memory, SameAnswer}
 use Rattle.stepper.proofs.SameSets.{same_undo, same_redo, same_cone, same_exchange, same_settle, same_cones}
 use Rattle.stepper.proofs.SameChanges.{same_count, same_undone_in, same_redone_in, same_rest, same_live_events, same_places, same_stood}

@@ -16,8 +16,9 @@ use Rattle.world_cells.specs.Events.{learn}
 use Rattle.world_cells.specs.World.{World, vat_named}
 use Rattle.book_agenda.specs.Agendas.{can_learn}
 use Rattle.book_agenda.proofs.Orders.{promise_total}
-use Rattle.book.specs.Fault.{refusal_text}
-use Rattle.book.specs.Refusals.{Refusal, nothing_to_learn, first, refuse_where, full_refusal, learning_refusal, learn_refusal_by, learn_refusal}
+use Rattle.book_refusals.specs.Fault.{refusal_text}
+use Rattle.book_refusals.specs.Refusals.{Refusal, nothing_to_learn, first, refuse_where}
+use Rattle.book.specs.Refusals.{full_refusal, learning_refusal, learn_refusal_by, learn_refusal}
 use Rattle.book.specs.Learning.{LearnsNamed, RefusesNamed, nothing_named, not_entered}
 use Rattle.book.specs.Books.{Book}
 use Rattle.book.specs.Calls.{EntersNext}

@@ -12,12 +12,12 @@ use Rattle.ids.specs.declared.names.MsgId.{MsgId}
 use Rattle.book_agenda.specs.Enabled.{message_in, learn_in, step_cmp, step_cmp_by}
 use Rattle.book_agenda.specs.declared.agenda.Step.{Step}
 use Rattle.book_agenda.proofs.Orders.{vat_total, message_total, promise_total}
-use Rattle.book.specs.Fault.{refusal_text}
-use Rattle.book.specs.Refusals.{Refusal}
+use Rattle.book_refusals.specs.Fault.{refusal_text}
+use Rattle.book_refusals.specs.Refusals.{Refusal}
 use Rattle.book.specs.Books.{Book}
-use Rattle.stepper.specs.Replies.{refused, done_text, FirstIn, Moves, move_without_memory, arrival_refused, arrives, forwarding_refused, forwards, turn_without_memory_named, turn_refused, turns, learning_refused, learns, Steps, step_done, step_refused, step_idle, step_without_memory, Runs, runs_out, runs_on, runs_last}
+use Rattle.stepper.specs.Replies.{refused, done_text, FirstIn, Moves, move_without_memory, move_refused, move_made, turn_without_memory_named, turn_refused, turns, Steps, step_done, step_refused, step_idle, step_without_memory, Runs, runs_out, runs_on, runs_last}
 use Rattle.stepper.specs.Laws.{SameBook, IsForWant, book_without_memory, EndsForWant, SameReply, one_reply, SameAnswer}
-use Rattle.stepper.proofs.SameBooks.{same_arrival, same_forward, same_learning, same_checkout, same_first}
+use Rattle.stepper.proofs.SameBooks.{same_move, same_checkout, same_first}
 use Rattle.stepper.proofs.Entered.{entered_once, turned_once}
 use Rattle.stepper.specs.declared.engine.Limits.{Limits}
 
@@ -109,22 +109,14 @@ one_move same move_without_memory k n m = absurd (n refl book_without_memory)
 one_move same turn_without_memory_named k n m = absurd (n refl book_without_memory)
 one_move same h move_without_memory n m = absurd (m refl book_without_memory)
 one_move same h turn_without_memory_named n m = absurd (m refl book_without_memory)
-one_move same (arrival_refused {m = g} h) (arrival_refused k) n m = refused_alike same (same_arrival same g) h k
-one_move same (arrival_refused {m = g} h) (arrives k y) n m = not_both h (sym (same_arrival same g) ∙ k)
-one_move same (arrives {m = g} h x) (arrival_refused k) n m = not_both k (same_arrival same g ∙ h)
-one_move same (arrives h x) (arrives k y) n m = done_alike (entered_once same x y)
-one_move same (forwarding_refused {m = g} h) (forwarding_refused k) n m = refused_alike same (same_forward same g) h k
-one_move same (forwarding_refused {m = g} h) (forwards k y) n m = not_both h (sym (same_forward same g) ∙ k)
-one_move same (forwards {m = g} h x) (forwarding_refused k) n m = not_both k (same_forward same g ∙ h)
-one_move same (forwards h x) (forwards k y) n m = done_alike (entered_once same x y)
+one_move same (move_refused {m = g} h) (move_refused k) n m = refused_alike same (same_move same g) h k
+one_move same (move_refused {m = g} h) (move_made k y) n m = not_both h (sym (same_move same g) ∙ k)
+one_move same (move_made {m = g} h x) (move_refused k) n m = not_both k (same_move same g ∙ h)
+one_move same (move_made h x) (move_made k y) n m = done_alike (entered_once same x y)
 one_move {limits = limits} same (turn_refused {m = g} h) (turn_refused k) n m = refused_alike same (same_checkout same g limits.budget) h k
 one_move {limits = limits} same (turn_refused {m = g} h) (turns k y) n m = not_both h (sym (same_checkout same g limits.budget) ∙ k)
 one_move {limits = limits} same (turns {m = g} h x) (turn_refused k) n m = not_both k (same_checkout same g limits.budget ∙ h)
 one_move same (turns h x) (turns k y) n m = let one = turned_once same x y in record { reply = one.0; refusal = refl; book = one.1 }
-one_move same (learning_refused {v = v} {p = g} h) (learning_refused k) n m = refused_alike same (same_learning same v g) h k
-one_move same (learning_refused {v = v} {p = g} h) (learns k y) n m = not_both h (sym (same_learning same v g) ∙ k)
-one_move same (learns {v = v} {p = g} h x) (learning_refused k) n m = not_both k (same_learning same v g ∙ h)
-one_move same (learns h x) (learns k y) n m = done_alike (entered_once same x y)
 
 -- the same move, of what is first
 move_as : {limits : Limits} {b d : Book} {s t : Step} {r : List ℕ} {q : Bool} → t ≡ s → Moves limits b t r q d → Moves limits b s r q d

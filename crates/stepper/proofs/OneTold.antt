@@ -1,5 +1,5 @@
 -- One answer at most to a question, in books that are the same.
-use Rattle.std.proofs.Common.{◌≡◌, ℕ, ◌+◌, ◌<◌, ◌≤◌, Bool, true, List, [], ◌∷◌, ◌++◌, length, map, cond, Option, Some, None, ◌⊎◌, ⊎_elim, codes, refl, sym, ap, subst, ◌∙◌, arith}
+use Rattle.std.proofs.Common.{◌≡◌, ℕ, ◌+◌, ◌<◌, ◌≤◌, Bool, true, List, [], ◌∷◌, ◌++◌, length, map, cond, Option, Some, None, ⊎_elim, codes, refl, sym, ap, subst, ◌∙◌, arith}
 use Rattle.std.specs.Prelude.{◌&&◌, ◌==◌, reverse, slice_get}
 use Rattle.std.specs.Fmt.{decimal}
 use Rattle.std.specs.Option.{option_or}
@@ -9,12 +9,8 @@ use Rattle.ids.specs.Names.{event_text}
 use Rattle.ids.specs.declared.cells.CellKey.{CellKey}
 use Rattle.ids.specs.declared.names.EventName.{EventName}
 use Rattle.ids.specs.declared.names.MsgId.{MsgId}
-use Rattle.ids.specs.declared.names.VatNo.{VatNo}
-use Rattle.kernele.specs.Tree.{Name}
-use Rattle.heap.specs.State.{Object}
-use Rattle.post.specs.Messages.{Message}
-use Rattle.world_cells.specs.World.{World, message, message_of}
-use Rattle.journal.specs.Lines.{plain, Line, entries_in}
+use Rattle.world_cells.specs.World.{World, message}
+use Rattle.journal.specs.Lines.{plain, Line}
 use Rattle.journal.proofs.Reversed.{map-reverse}
 use Rattle.book.specs.Books.{Book}
 use Rattle.book.specs.Good.{NamesVatsOnce}

@@ -19,13 +19,13 @@ use Rattle.journal.specs.Lines.{Line, in_order}
 use Rattle.journal.proofs.Reversed.{map-map}
 use Rattle.journal.proofs.Neighbouring.{map-exchanged}
 use Rattle.book_agenda.specs.declared.agenda.Step.{Step}
+use Rattle.book_refusals.specs.Checks.{exchange_refusal}
 use Rattle.book.specs.Books.{Book, blank}
 use Rattle.book.specs.Good.{NamesVatsOnce}
-use Rattle.book.specs.Refusals.{exchange_refusal}
 use Rattle.book.specs.Calls.{Enters, EntersNext, undone, redone, redone_in, Undoes, Redoes, Exchanges}
 use Rattle.stepper_commands.specs.Commands.{Spelled}
 use Rattle.stepper_commands.specs.declared.command.LineFault.{LineFault}
-use Rattle.stepper.specs.Replies.{Moves, move_without_memory, arrival_refused, arrives, forwarding_refused, forwards, turn_without_memory_named, turn_refused, turns, learning_refused, learns, Steps, step_done, step_refused, step_idle, step_without_memory, Runs, runs_out, runs_on, runs_last, Answers, arrive_moves, forward_moves, turn_moves, learn_without_memory, learn_refused, learn_accepted, stepped, runs, worked, work_refused, enabled_without_memory, enabled, ask_without_memory, asked_without_memory, asked_unread, ask_refused, ask_accepted, show_without_memory, shown, journal_without_memory, listed, log_without_memory, logged, cone_without_memory, cone_refused, cone_found, undo_without_memory, undo_refused, undo_accepted, undo_cone_without_memory, undo_cone_refused, undo_cone_found, redo_without_memory, redo_refused, redo_accepted, exchange_refused, exchange_accepted, settle_without_memory, settle_refused, settle_accepted, why_without_memory, why_refused, why_told, event_without_memory, event_refused, event_told, message_without_memory, message_refused, message_told, object_without_memory, object_refused, object_told, AnswersBirth, birth_without_memory, script_without_memory, script_refused, script_unread, birth_refused, birth_accepted, FirstReply, skipped, no_command, born, answered}
+use Rattle.stepper.specs.Replies.{Moves, move_without_memory, move_refused, move_made, turn_without_memory_named, turn_refused, turns, Steps, step_done, step_refused, step_idle, step_without_memory, Runs, runs_out, runs_on, runs_last, Answers, arrive_moves, forward_moves, turn_moves, learn_without_memory, learn_refused, learn_accepted, stepped, runs, worked, work_refused, enabled_without_memory, enabled, ask_without_memory, asked_without_memory, asked_unread, ask_refused, ask_accepted, show_without_memory, shown, journal_without_memory, listed, log_without_memory, logged, cone_without_memory, cone_refused, cone_found, undo_without_memory, undo_refused, undo_accepted, undo_cone_without_memory, undo_cone_refused, undo_cone_found, redo_without_memory, redo_refused, redo_accepted, exchange_refused, exchange_accepted, settle_without_memory, settle_refused, settle_accepted, why_without_memory, why_refused, why_told, event_without_memory, event_refused, event_told, message_without_memory, message_refused, message_told, object_without_memory, object_refused, object_told, AnswersBirth, birth_without_memory, script_without_memory, script_refused, script_unread, birth_refused, birth_accepted, FirstReply, skipped, no_command, born, answered}
 use Rattle.stepper.specs.Laws.{IsTold, IsToldLine}
 use Rattle.stepper.proofs.VatNames.{run_names_vats_once}
 use Rattle.stepper.specs.declared.engine.Limits.{Limits}
@@ -193,15 +193,11 @@ reached_exchanged {old = old} {now = now} (suc n) r none h =
 
 reached_moved : {limits : Limits} {b d : Book} {s : Step} {reply : List ℕ} {q : Bool} → Reached b → Moves limits b s reply q d → Reached d
 reached_moved r move_without_memory = r
-reached_moved r (arrival_refused h) = r
-reached_moved r (arrives h x) = reached_next r x
-reached_moved r (forwarding_refused h) = r
-reached_moved r (forwards h x) = reached_next r x
+reached_moved r (move_refused h) = r
+reached_moved r (move_made h x) = reached_next r x
 reached_moved r turn_without_memory_named = reached_named r
 reached_moved r (turn_refused h) = r
 reached_moved r (turns h x) = reached_entered r x.named x.drawn x.enters.enters
-reached_moved r (learning_refused h) = r
-reached_moved r (learns h x) = reached_next r x
 
 reached_stepped : {limits : Limits} {b d : Book} {reply : List ℕ} {q more : Bool} → Reached b → Steps limits b reply q d more → Reached d
 reached_stepped r (step_done f h) = reached_moved r h

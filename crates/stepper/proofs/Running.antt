@@ -6,7 +6,7 @@ use Rattle.book.specs.BookView.{book_of}
 use Rattle.book_agenda.specs.declared.agenda.Step.{Step}
 use Rattle.stepper_commands.specs.Commands as commands
 use Rattle.kernele_scopes.specs.Words.{no_memory}
-use Rattle.stepper_streams.specs.Outlet.{is_cut, Gives, IsCutShort, Tells}
+use Rattle.stepper_streams.specs.Outlet.{is_cut, Tells}
 use Rattle.stepper_streams.specs.declared.outlet.Outlet.{Outlet}
 use Rattle.stepper_streams.proofs.Giving.{tells_both, tells_as, tells_none, tells_more, was_open}
 use Rattle.stepper.specs.declared.engine.Engine.{Engine}

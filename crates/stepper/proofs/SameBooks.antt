@@ -19,13 +19,16 @@ use Rattle.world_cells.specs.World.{World, vat_named, message_of}
 use Rattle.event.specs.Ready.{lost, early, place_of}
 use Rattle.book_agenda.specs.Agendas.{can_learn}
 use Rattle.book_agenda.specs.Enabled.{First, Enabled}
+use Rattle.book_agenda.specs.declared.agenda.Move.{Move}
+use Rattle.book_agenda.specs.declared.agenda.Move.TheVariants as move
 use Rattle.book_agenda.specs.declared.agenda.Step.{Step}
 use Rattle.desk.specs.Desks.{Lent, has_vat}
 use Rattle.journal.specs.Lines.{plain, Line, entries_in}
 use Rattle.journal.proofs.Reversed.{map-reverse, filter-reverse}
 use Rattle.journal.proofs.Touching.{same_truth}
 use Rattle.causality.proofs.Writers.{plain_laws}
-use Rattle.book.specs.Refusals.{first, refuse_where, full, full_refusal, nothing_to_learn, vat_out, arrival_refusal_by, arrival_refusal, refusal_of, onward_refusal, forward_refusal, learning_refusal, budget_refusal, message_out, checkout_refusal, check_refusal, taken_refusal, named_refusal, birth_refusal, ask_refusal_by, ask_refusal, learn_refusal_by, learn_refusal}
+use Rattle.book_refusals.specs.Refusals.{first, refuse_where, full, nothing_to_learn, vat_out, refusal_of}
+use Rattle.book.specs.Refusals.{full_refusal, arrival_refusal_by, arrival_refusal, onward_refusal, forward_refusal, learning_refusal, move_refusal, budget_refusal, message_out, checkout_refusal, check_refusal, taken_refusal, named_refusal, birth_refusal, ask_refusal_by, ask_refusal, learn_refusal_by, learn_refusal}
 use Rattle.book.specs.Books.{Book}
 use Rattle.stepper.specs.Replies.{FirstIn, EnabledIn}
 use Rattle.stepper.specs.Laws.{SameLine, SameLines, SameBook}
@@ -98,16 +101,21 @@ module _ {b c : Book} (h : SameBook b c) where
   same_full : full_refusal c ≡ full_refusal b
   same_full = λ i. refuse_where (nat_lt 4294967295 (h.next i) || nat_le MOST_ENTRIES (same_length b.journal c.journal h.journal i - h.settled i)) full
 
-  pub same_arrival : (m : MsgId) → arrival_refusal c m ≡ arrival_refusal b m
+  same_arrival : (m : MsgId) → arrival_refusal c m ≡ arrival_refusal b m
   same_arrival m = λ i. first (arrival_refusal_by m (message_of (h.world i) m)) (same_full i)
 
-  pub same_forward : (m : MsgId) → forward_refusal c m ≡ forward_refusal b m
+  same_forward : (m : MsgId) → forward_refusal c m ≡ forward_refusal b m
   same_forward m = λ i.
       first (option_map (refusal_of m) (lost (h.world i) m))
       (first (onward_refusal (h.world i) (message_of (h.world i) m) (place_of (message_of (h.world i) m))) (same_full i))
 
   pub same_learning : (v : VatNo) (p : PromId) → learning_refusal c v p ≡ learning_refusal b v p
   same_learning v p = λ i. first (refuse_where (not (can_learn (h.world i) v p)) nothing_to_learn) (same_full i)
+
+  pub same_move : (m : Move) → move_refusal c m ≡ move_refusal b m
+  same_move (move.Arrive m) = same_arrival m
+  same_move (move.Forward m) = same_forward m
+  same_move (move.Learn v p) = same_learning v p
 
   pub same_checkout : (m : MsgId) (budget : ℕ) → checkout_refusal c m budget ≡ checkout_refusal b m budget
   same_checkout m budget = λ i.

@@ -10,12 +10,13 @@ use Rattle.world_cells.specs.Events.{Noted, event_in}
 use Rattle.journal.specs.Items.{exchanged}
 use Rattle.journal.specs.Lines.{plain, Line, in_order}
 use Rattle.causality.specs.Selections.{name_of, is_live, chosen}
-use Rattle.book.specs.Calls.{undone, undone_in, redone, redone_in, live_events, rest_of, StoodAt}
+use Rattle.book_refusals.specs.Checks.{StoodAt}
+use Rattle.book.specs.Calls.{undone, undone_in, redone, redone_in, live_events, rest_of}
 use Rattle.causewaylog.specs.Turns.{live_in}
 use Rattle.stepper_printing.specs.Listing.{born_as, born_among, born, entry_line, entry_lines, base_text, journal_text}
 use Rattle.stepper.specs.Replies.{count_of}
 use Rattle.stepper.specs.Laws.{SameLine, SameLines}
-use Rattle.stepper.proofs.SameLines.{same_by, told, same_told, same_length, same_map, same_filter, same_drop, SameOption, same_get}
+use Rattle.stepper.proofs.SameLines.{same_by, same_told, same_length, same_map, same_filter, same_drop, SameOption, same_get}
 
 -- ---- texts
 

@@ -1,5 +1,5 @@
 -- Lines that tell the same refuse the same: an undo, a redo, a cone, an exchange and a settling; and they have the same cones.
-use Rattle.std.proofs.Common.{◌≡◌, ℕ, zero, suc, ◌+◌, true, List, [], ◌∷◌, ◌++◌, take, Option, Some, None, map, filter, refl, sym, ap, ap₂, subst, ◌∙◌, cond}
+use Rattle.std.proofs.Common.{◌≡◌, ℕ, zero, suc, true, List, [], ◌∷◌, ◌++◌, take, Option, Some, None, map, filter, refl, sym, ap, ap₂, subst, ◌∙◌, cond}
 use Rattle.std.specs.Prelude.{◌&&◌, ◌||◌, ◌==◌, not, reverse, slice_get}
 use Rattle.std.specs.List.{AllByRecursion}
 use Rattle.std.specs.Option.{option_map, option_or}
@@ -10,7 +10,8 @@ use Rattle.journal.specs.declared.entry.Mark.TheVariants as mark
 use Rattle.journal.proofs.Reversed.{map-reverse}
 use Rattle.causality.specs.Selections.{name_of, is_live, among, chosen, is_entered, least, first_settled, has_mark, first_marked, gap, consequence, first_gap, is_member, missing_cause, first_missing_cause, crossing, first_crossing_behind}
 use Rattle.causality.specs.Exact.{ClosedIn, Cone}
-use Rattle.book.specs.Refusals.{Refusal, first, refuse_where, no_event, is_settled, not_live, still_live, not_closed, crossed, cause_missing, dependent, gap_refusal, undo_refusal, redo_refusal, cone_refusal, neighbours_by, settled_at, undone_neighbour, dependent_neighbour, exchange_refusal, first_undone, settle_refusal_by, settle_refusal}
+use Rattle.book_refusals.specs.Refusals.{Refusal, first, refuse_where, no_event, is_settled, not_live, still_live, not_closed, crossed, cause_missing, dependent}
+use Rattle.book_refusals.specs.Checks.{gap_refusal, undo_refusal, redo_refusal, cone_refusal, neighbours_by, settled_at, undone_neighbour, dependent_neighbour, exchange_refusal, first_undone, settle_refusal_by, settle_refusal}
 use Rattle.stepper.specs.Laws.{SameLine, SameLines}
 use Rattle.stepper.proofs.SameBooks.{same_meets}
 use Rattle.stepper.proofs.SameLines.{same_by, lines_more, same_lines_back, same_reverse, same_told, Alike, same_map, same_any, same_some, same_first_name, same_all, same_filter, same_take, SameOption, same_get}

@@ -1,5 +1,5 @@
 -- Replies to commands, one after another, and what bytes of an input they are replies to.
-use Rattle.std.proofs.Common.{◌≡◌, ℕ, ◌+◌, ◌<◌, ◌≤◌, List, [], ◌∷◌, ◌++◌, length, Bool, true, false, ◌||◌, Option, Some, None, Result, Ok, Err, refl, sym, ap, subst, ◌∙◌, arith, append_assoc, append-nil}
+use Rattle.std.proofs.Common.{◌≡◌, ℕ, ◌<◌, ◌≤◌, List, [], ◌∷◌, ◌++◌, length, Bool, true, false, ◌||◌, Option, Result, refl, sym, ap, subst, ◌∙◌, arith, append_assoc, append-nil}
 use Rattle.book.specs.Books.{Book, blank}
 use Rattle.stepper_commands.specs.Lines.{behind_line}
 use Rattle.stepper_commands.specs.Commands.{Spelled}

@@ -1,14 +1,14 @@
 -- Lines and commands that stand whole, and what they say.
-use Rattle.std.proofs.Common.{◌≡◌, ℕ, ◌+◌, ◌<◌, ◌≤◌, List, [], ◌∷◌, ◌++◌, Bool, true, false, cond, Option, Some, None, Result, Ok, Err, refl, sym, ap, subst, ◌∙◌, arith, append_assoc, append-nil, take, drop}
+use Rattle.std.proofs.Common.{◌≡◌, ℕ, ◌+◌, ◌<◌, ◌≤◌, List, [], ◌∷◌, ◌++◌, Bool, true, false, cond, Option, Some, None, Result, Err, refl, sym, ap, subst, ◌∙◌, arith, append_assoc, take, drop}
 use Rattle.std.specs.Prelude.{IsSome}
 use Rattle.std.proofs.lemmas.List.Sums.{sum_by-append}
 use Rattle.stepper_commands.specs.Lines.{is_line_feed, line_end, line_of, behind_line, is_long}
 use Rattle.stepper_commands.specs.Commands.{Spelled, spelled_by}
 use Rattle.stepper_commands.specs.Scripts.{fault_in, fault_of}
 use Rattle.stepper_commands.specs.declared.command.LineFault.{LineFault}
-use Rattle.stepper_streams.specs.Pieces.{HasNoFeed, Reads, IsOneLine, fed, last}
+use Rattle.stepper_streams.specs.Pieces.{HasNoFeed, Reads}
 use Rattle.stepper_streams.specs.declared.line.Line.{Line}
-use Rattle.stepper_streams.proofs.Feeds.{no_feed_here, feed_behind, line_before_feed, behind_feed, long_before_feed, behind_no_feed, cut_at_feed}
+use Rattle.stepper_streams.proofs.Feeds.{no_feed_here, feed_behind, line_before_feed, behind_feed, long_before_feed, cut_at_feed}
 use Rattle.stepper.specs.Replies.{said, said_by, script_lines, line_feeds, IsWhole}
 
 pub line_feeds-append : (xs ys : List ℕ) → line_feeds (xs ++ ys) ≡ line_feeds xs + line_feeds ys

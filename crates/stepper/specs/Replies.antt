@@ -5,7 +5,6 @@ use Rattle.ids.specs.Names.{event_text, message_text}
 use Rattle.ids.specs.Quoted.{quoted}
 use Rattle.ids.specs.declared.names.EventName.{EventName}
 use Rattle.ids.specs.declared.names.MsgId.{MsgId}
-use Rattle.ids.specs.declared.names.PromId.{PromId}
 use Rattle.ids.specs.declared.names.VatNo.{VatNo}
 use Rattle.kernele.specs.Tree.{Trees}
 use Rattle.values.specs.Shown as values
@@ -18,21 +17,25 @@ use Rattle.ereader.specs.declared.fault.ReadFault.TheVariants as read_fault
 use Rattle.kernele_scopes.specs.Words.{no_memory}
 use Rattle.ereader.specs.declared.fault.ReadFault.{ReadFault}
 use Rattle.post.specs.Messages.{Vat}
-use Rattle.world_cells.specs.Events.{birth, ask, arrive, forward, learn}
+use Rattle.world_cells.specs.Events.{birth, ask}
 use Rattle.event.specs.Events.{Foot, Turn, birth_foot, ask_foot, first_message}
 use Rattle.book_agenda.specs.Enabled.{Enabled, First}
+use Rattle.book_agenda.specs.declared.agenda.Move.{Move}
+use Rattle.book_agenda.specs.declared.agenda.Move.TheVariants as move
 use Rattle.book_agenda.specs.declared.agenda.Step.{Step}
 use Rattle.book_agenda.specs.declared.agenda.Step.TheVariants as step
 use Rattle.desk.specs.Desks.{has_vat}
 use Rattle.journal.specs.Lines.{Line}
 use Rattle.causality.specs.Exact.{Cone}
 use Rattle.causality.specs.Selections.{chosen}
-use Rattle.book.specs.Fault.{refusal_text, work_text}
-use Rattle.book.specs.Refusals.{Refusal}
-use Rattle.book.specs.Refusals.{birth_refusal, ask_refusal, arrival_refusal, forward_refusal, learning_refusal, checkout_refusal, undo_refusal, redo_refusal, cone_refusal, exchange_refusal, settle_refusal}
+use Rattle.book_refusals.specs.Fault.{refusal_text, work_text}
+use Rattle.book_refusals.specs.Refusals.{Refusal}
+use Rattle.book_refusals.specs.Checks.{StoodAt, undo_refusal, redo_refusal, cone_refusal, exchange_refusal, settle_refusal}
+use Rattle.book_refusals.specs.declared.fault.WorkFault.{WorkFault}
+use Rattle.book.specs.Refusals.{birth_refusal, ask_refusal, move_refusal, checkout_refusal}
 use Rattle.book.specs.Learning.{LearnsNamed, RefusesNamed}
 use Rattle.book.specs.Books.{Book, blank, settled_lines, open_lines}
-use Rattle.book.specs.Calls.{EntersNext, TurnsNext, Undoes, Redoes, Exchanges, Settles, StoodAt}
+use Rattle.book.specs.Calls.{EntersNext, TurnsNext, Undoes, Redoes, Exchanges, Settles, act_of}
 use Rattle.stepper_commands.specs.Lines.{is_line_feed, line_end, line_of, behind_line}
 use Rattle.stepper_commands.specs.declared.numbers.PromiseName.{PromiseName}
 use Rattle.stepper_commands.specs.Commands as command
@@ -53,7 +56,6 @@ use Rattle.stepper_questions.specs.Refusals.{pair_refusal, event_refusal, unansw
 use Rattle.stepper_questions.specs.Why.{Why}
 use Rattle.stepper_questions.specs.declared.unanswered.Unanswered.{Unanswered}
 use Rattle.stepper_questions.specs.declared.unanswered.Unanswered.TheVariants as unanswered
-use Rattle.book.specs.declared.fault.WorkFault.{WorkFault}
 use Rattle.stepper.specs.declared.engine.Limits.{Limits}
 
 -- no CODE NAME ARGS
@@ -114,19 +116,13 @@ logged_text text = text ++ 10 ∷ []
 -- Want of memory may refuse what needs it; the book then is as it was, but for a name that a turn may have drawn.
 pub data Moves (limits : Limits) : Book → Step → List ℕ → Bool → Book → Type 0 where
   move_without_memory : {b : Book} {s : Step} → Moves limits b s (refused (no_memory)) true b
-  arrival_refused : {b : Book} {m : MsgId} {r : Refusal} → arrival_refusal b m ≡ Some r → Moves limits b (step.Arrive m) (refused (refusal_text r)) true b
-  arrives : {b d : Book} {m : MsgId} {e : EventName} {f : Foot} → arrival_refusal b m ≡ None → EntersNext (record { name = e; act = arrive m }) f 0 b d
-      → Moves limits b (step.Arrive m) (done_text e) false d
-  forwarding_refused : {b : Book} {m : MsgId} {r : Refusal} → forward_refusal b m ≡ Some r → Moves limits b (step.Forward m) (refused (refusal_text r)) true b
-  forwards : {b d : Book} {m : MsgId} {e : EventName} {f : Foot} → forward_refusal b m ≡ None → EntersNext (record { name = e; act = forward m }) f 0 b d
-      → Moves limits b (step.Forward m) (done_text e) false d
+  move_refused : {b : Book} {m : Move} {r : Refusal} → move_refusal b m ≡ Some r → Moves limits b (step.Move m) (refused (refusal_text r)) true b
+  move_made : {b d : Book} {m : Move} {e : EventName} {f : Foot} → move_refusal b m ≡ None → EntersNext (record { name = e; act = act_of m }) f 0 b d
+      → Moves limits b (step.Move m) (done_text e) false d
   turn_without_memory_named : {b : Book} {m : MsgId} → Moves limits b (step.Turn m) (refused (no_memory)) true (record b { next = b.next + 1 })
   turn_refused : {b : Book} {m : MsgId} {r : Refusal} → checkout_refusal b m limits.budget ≡ Some r → Moves limits b (step.Turn m) (refused (refusal_text r)) true b
   turns : {b d : Book} {m : MsgId} {e : EventName} {t : Turn} → checkout_refusal b m limits.budget ≡ None → TurnsNext e m limits.budget t b d
       → Moves limits b (step.Turn m) (turned_text e t.outcome.told) false d
-  learning_refused : {b : Book} {v : VatNo} {p : PromId} {r : Refusal} → learning_refusal b v p ≡ Some r → Moves limits b (step.Learn v p) (refused (refusal_text r)) true b
-  learns : {b d : Book} {v : VatNo} {p : PromId} {e : EventName} {f : Foot} → learning_refusal b v p ≡ None → EntersNext (record { name = e; act = learn v p }) f 0 b d
-      → Moves limits b (step.Learn v p) (done_text e) false d
 
 -- the first that may be done in a book, and all of it
 abbrev pub FirstIn : Book → Option Step → Type 0
@@ -151,8 +147,8 @@ pub data Runs (limits : Limits) : ℕ → Book → List ℕ → Bool → Book �
 
 -- With the options' limits: a command leads from a book to a reply, refused or not, and a book.
 pub data Answers (limits : Limits) : Book → Spelled → List ℕ → Bool → Book → Type 0 where
-  arrive_moves : {b d : Book} {m : MsgId} {reply : List ℕ} {r : Bool} → Moves limits b (step.Arrive m) reply r d → Answers limits b (command.arrive m) reply r d
-  forward_moves : {b d : Book} {m : MsgId} {reply : List ℕ} {r : Bool} → Moves limits b (step.Forward m) reply r d → Answers limits b (command.forward m) reply r d
+  arrive_moves : {b d : Book} {m : MsgId} {reply : List ℕ} {r : Bool} → Moves limits b (step.Move (move.Arrive m)) reply r d → Answers limits b (command.arrive m) reply r d
+  forward_moves : {b d : Book} {m : MsgId} {reply : List ℕ} {r : Bool} → Moves limits b (step.Move (move.Forward m)) reply r d → Answers limits b (command.forward m) reply r d
   turn_moves : {b d : Book} {m : MsgId} {reply : List ℕ} {r : Bool} → Moves limits b (step.Turn m) reply r d → Answers limits b (command.turn m) reply r d
   learn_without_memory : {b : Book} {x : List ℕ} {n : PromiseName} → Answers limits b (command.learn x n) (refused (no_memory)) true b
   learn_refused : {b : Book} {x : List ℕ} {n : PromiseName} {r : Refusal} → RefusesNamed b x n.event n.index r → Answers limits b (command.learn x n) (refused (refusal_text r)) true b

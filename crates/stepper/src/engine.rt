@@ -24,13 +24,13 @@ use crate::reply::{
     put_turned, put_undone, put_worked,
 };
 use book::book::{Book, NO_SEAT, Turned};
-use book::fault::BookFault;
 use book::request::Request;
-use book_agenda::agenda::Step;
+use book_agenda::agenda::{Move, Step};
 use book_crew::crew::{Crew, Order};
+use book_refusals::fault::BookFault;
 use causewaylog::log::log_of;
 use ereader::read;
-use ids::names::{EventName, MsgId, PromId, VatNo};
+use ids::names::{EventName, MsgId};
 use ids::text::Text;
 use kernele::tree::Program;
 use std::alloc::{AllocError, Global};
@@ -118,25 +118,11 @@ impl Engine {
         }
     }
 
-    fn arrive<W: Write>(&mut self, message: MsgId, out: &mut Outlet<W>) -> bool
-        ensures { Moved W.contents self.old self.new out.old out.new (Step.Arrive message) result }
+    /// Enters a move, if it may be made.
+    fn enter_move<W: Write>(&mut self, what: Move, out: &mut Outlet<W>) -> bool
+        ensures { Moved W.contents self.old self.new out.old out.new (Step.Move what) result }
     {
-        match self.book.arrive(message) {
-            Ok(event) => {
-                put_done(event, out);
-                true
-            }
-            Err(fault) => {
-                self.written.refuse_call(&fault, out);
-                false
-            }
-        }
-    }
-
-    fn forward<W: Write>(&mut self, message: MsgId, out: &mut Outlet<W>) -> bool
-        ensures { Moved W.contents self.old self.new out.old out.new (Step.Forward message) result }
-    {
-        match self.book.forward(message) {
+        match self.book.enter(Request::Move(what), NO_SEAT) {
             Ok(event) => {
                 put_done(event, out);
                 true
@@ -163,31 +149,13 @@ impl Engine {
         }
     }
 
-    /// A vat learns what is known of a promise, by its number.
-    fn learn_at<W: Write>(&mut self, vat: VatNo, promise: PromId, out: &mut Outlet<W>) -> bool
-        ensures { Moved W.contents self.old self.new out.old out.new (Step.Learn vat promise) result }
-    {
-        match self.book.enter(Request::Learn(vat, promise), NO_SEAT) {
-            Ok(event) => {
-                put_done(event, out);
-                true
-            }
-            Err(fault) => {
-                self.written.refuse_call(&fault, out);
-                false
-            }
-        }
-    }
-
     /// Does something, and answers whether it was done.
-    fn make_move<W: Write>(&mut self, step: Step, out: &mut Outlet<W>) -> bool
+    fn make_step<W: Write>(&mut self, step: Step, out: &mut Outlet<W>) -> bool
         ensures { Moved W.contents self.old self.new out.old out.new step result }
     {
         match step {
-            Step::Arrive(message) => self.arrive(message, out),
-            Step::Forward(message) => self.forward(message, out),
+            Step::Move(what) => self.enter_move(what, out),
             Step::Turn(message) => self.turn(message, out),
-            Step::Learn(vat, promise) => self.learn_at(vat, promise, out),
         }
     }
 
@@ -195,7 +163,7 @@ impl Engine {
     fn obey<W: Write>(&mut self, step: Step, out: &mut Outlet<W>)
         ensures { Happens W.contents self.old self.new out.old out.new (λ b r s d. Moves self.old.limits b step r s d) }
     {
-        let _ = self.make_move(step, out);
+        let _ = self.make_step(step, out);
     }
 
     /// Does the first that may be done. Answers whether a next step may follow: something was found, and it was not refused.
@@ -203,7 +171,7 @@ impl Engine {
         ensures { Happens W.contents self.old self.new out.old out.new (λ b r s d. Steps self.old.limits b r s d result) }
     {
         match self.book.next() {
-            Ok(Some(step)) => self.make_move(step, out),
+            Ok(Some(step)) => self.make_step(step, out),
             Ok(None) => {
                 put_idle(out);
                 false
@@ -512,8 +480,8 @@ impl Engine {
                 self.birth(name, earlier, &script, sink);
             }
             Command::Ask { name, text } => self.ask(name, text, sink),
-            Command::Arrive(message) => self.obey(Step::Arrive(message), sink),
-            Command::Forward(message) => self.obey(Step::Forward(message), sink),
+            Command::Arrive(message) => self.obey(Step::Move(Move::Arrive(message)), sink),
+            Command::Forward(message) => self.obey(Step::Move(Move::Forward(message)), sink),
             Command::Learn { name, promise } => self.learn(name, promise, sink),
             Command::Turn(message) => self.obey(Step::Turn(message), sink),
             Command::Step => self.step(sink),

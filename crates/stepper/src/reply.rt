@@ -1,10 +1,10 @@
 // Replies, as they are given to an outlet piece by piece: they take no memory.
-ghost use Rattle.std.specs.Prelude.{◌≡◌, ◌++◌, ◌||◌, true, false, codes};
+ghost use Rattle.std.specs.Prelude.{◌++◌, true, codes};
 ghost use Rattle.ids.specs.Quoted.{quoted};
 ghost use Rattle.values.specs.Shown as values;
 ghost use Rattle.values.specs.View.{val_of};
 ghost use Rattle.ereader.specs.Shown.{shown};
-ghost use Rattle.book.specs.Fault as book_fault;
+ghost use Rattle.book_refusals.specs.Fault as book_fault;
 ghost use Rattle.turn_deliveries.specs.Outcomes.{told_of};
 ghost use Rattle.stepper_commands.specs.Commands.{fault_text};
 ghost use Rattle.stepper_questions.specs.Refusals.{unanswered_text};
@@ -14,7 +14,7 @@ ghost use Rattle.stepper_streams.specs.Outlet.{Tells};
 use crate::words::{
     put_book_fault, put_line_fault, put_read_fault, put_unanswered, put_work_fault,
 };
-use book::fault::{BookFault, WorkFault};
+use book_refusals::fault::{BookFault, WorkFault};
 use ereader::fault::ReadFault;
 use ids::names::{EventName, MsgId};
 use std::io::Write;

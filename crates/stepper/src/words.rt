@@ -4,13 +4,13 @@ ghost use Rattle.std.specs.Fmt.{decimal};
 ghost use Rattle.ids.specs.Names.{event_text, message_text};
 ghost use Rattle.ereader.specs.Shown.{shown};
 ghost use Rattle.stepper_commands.specs.Commands.{fault_text};
-ghost use Rattle.book.specs.Fault as book_fault;
-ghost use Rattle.book.specs.Fault.{pair_text};
+ghost use Rattle.book_refusals.specs.Fault as book_fault;
+ghost use Rattle.book_refusals.specs.Fault.{pair_text};
 ghost use Rattle.stepper_questions.specs.Refusals.{unanswered_text};
 ghost use Rattle.stepper.specs.Words.{check_text};
 ghost use Rattle.stepper_streams.specs.Outlet.{Tells};
 
-use book::fault::{BookFault, WorkFault};
+use book_refusals::fault::{BookFault, WorkFault};
 use ereader::fault::ReadFault;
 use ids::names::{EventName, MsgId};
 use kernele_scopes::CheckFault;

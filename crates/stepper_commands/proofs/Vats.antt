@@ -1,5 +1,5 @@
 -- Words that name vats, or one of which is a given word, one after another.
-use Rattle.std.proofs.Common.{◌≡◌, ℕ, List, [], ◌∷◌, Bool, true, false, cond, length, refl, sym, ap, ◌∙◌, ◌==◌}
+use Rattle.std.proofs.Common.{◌≡◌, ℕ, List, ◌∷◌, Bool, true, false, cond, length, refl, sym, ap, ◌∙◌, ◌==◌}
 use Rattle.std.specs.Str.{bytes_eq}
 use Rattle.stepper_commands.specs.Words.{is_bare, first_word, behind_word, words_in}
 use Rattle.stepper_commands.specs.Commands.{is_vat_name, is_among, are_vats}

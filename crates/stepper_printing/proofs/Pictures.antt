@@ -1,5 +1,5 @@
 -- A world that is sorted, and its text.
-use Rattle.std.proofs.Common.{◌≡◌, ℕ, List, [], ◌∷◌, ◌++◌, Option, refl, sym, ap, subst, ◌∙◌, append_assoc, append-nil}
+use Rattle.std.proofs.Common.{◌≡◌, ℕ, List, [], ◌∷◌, ◌++◌, sym, ap, subst, ◌∙◌, append_assoc, append-nil}
 use Rattle.std.specs.BTreeMap.{BTreeMap, IsOrdered}
 use Rattle.ids.specs.Cells.{message_cmp, promise_cmp}
 use Rattle.ids.specs.declared.cells.CellKey.TheVariants as key

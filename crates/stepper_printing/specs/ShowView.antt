@@ -1,5 +1,5 @@
 -- What the program's maps hold, as lists of contents with their keys.
-use Rattle.std.specs.Prelude.{◌≡◌, ℕ, List, ◌++◌, map}
+use Rattle.std.specs.Prelude.{List, map}
 use Rattle.std.specs.BTreeMap.{BTreeMap}
 use Rattle.kernele.specs.Tree.{Name}
 use Rattle.values.specs.View.{val_of}

@@ -5,6 +5,7 @@ use Rattle.ids.specs.Names.{message_text}
 use Rattle.ids.specs.declared.names.VatNo.{VatNo}
 use Rattle.kernele.specs.Tree.{Name}
 use Rattle.book_agenda.specs.declared.agenda.Step.{Step}
+use Rattle.book_agenda.specs.declared.agenda.Move.TheVariants as move
 use Rattle.book_agenda.specs.declared.agenda.Step.TheVariants as step
 use Rattle.world_cells.specs.World.{World}
 use Rattle.ids.specs.declared.cells.CellKey.TheVariants as key
@@ -13,10 +14,10 @@ use Rattle.stepper_printing.specs.Show.{ByBirth, name_of, line_feed}
 
 -- the command that does it
 abbrev pub step_text : List (VatNo × Name) → Step → List ℕ
-step_text vats (step.Arrive m) = codes "arrive " ++ message_text m
-step_text vats (step.Forward m) = codes "forward " ++ message_text m
+step_text vats (step.Move (move.Arrive m)) = codes "arrive " ++ message_text m
+step_text vats (step.Move (move.Forward m)) = codes "forward " ++ message_text m
 step_text vats (step.Turn m) = codes "turn " ++ message_text m
-step_text vats (step.Learn v p) = learn_text (name_of vats v) p
+step_text vats (step.Move (move.Learn v p)) = learn_text (name_of vats v) p
 
 -- a line for each
 abbrev pub step_lines : List (VatNo × Name) → List Step → List ℕ

@@ -8,7 +8,7 @@ ghost use Rattle.stepper_streams.specs.Outlet.{Tells};
 use crate::choice::Choice;
 use crate::listing::{put_learn, put_words_of};
 use crate::picture::vats_by_birth;
-use book_agenda::agenda::Step;
+use book_agenda::agenda::{Move, Step};
 use ids::names::VatNo;
 use ids::text::Text;
 use std::alloc::{AllocError, Global};
@@ -32,10 +32,10 @@ fn put_step<W: Write>(step: Step, vats: &BTreeMap<VatNo, Text>, out: &mut Outlet
     ensures { Tells W.contents out.old out.new (step_text vats.now.entries step) }
 {
     match step {
-        Step::Arrive(message) => put_words_of("arrive ", message, out),
-        Step::Forward(message) => put_words_of("forward ", message, out),
+        Step::Move(Move::Arrive(message)) => put_words_of("arrive ", message, out),
+        Step::Move(Move::Forward(message)) => put_words_of("forward ", message, out),
         Step::Turn(message) => put_words_of("turn ", message, out),
-        Step::Learn(vat, promise) => put_learn(vats.get(&vat), promise, out),
+        Step::Move(Move::Learn(vat, promise)) => put_learn(vats.get(&vat), promise, out),
     }
 }
 

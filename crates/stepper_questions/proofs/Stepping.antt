@@ -9,7 +9,6 @@ use Rattle.ids.specs.declared.cells.CellKey.{CellKey}
 use Rattle.journal.specs.Lines.{plain, Line, entries_in}
 use Rattle.causality.proofs.Telling.{Tells}
 use Rattle.stepper_questions.specs.Chains.{Step, Chain, chain_none, chain_more}
-use Rattle.stepper_questions.specs.Writers.{writer}
 use Rattle.stepper_questions.proofs.Keeping.{Last, keeps_touched, touched_kept}
 use Rattle.journal.proofs.Touching.{any-map}
 use Rattle.stepper_questions.proofs.Places.{place_any, one_item, one_name, cause_rises}

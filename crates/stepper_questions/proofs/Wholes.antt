@@ -1,5 +1,5 @@
 -- What is told of events, messages and objects, from its parts.
-use Rattle.std.proofs.Common.{◌≡◌, ℕ, ◌+◌, List, [], ◌∷◌, ◌++◌, map, length, get_or, Option, Some, None, slice_get, refl, sym, ap, ap₂, ◌∙◌, codes}
+use Rattle.std.proofs.Common.{◌≡◌, ℕ, ◌+◌, List, ◌∷◌, ◌++◌, map, length, get_or, Option, Some, None, slice_get, refl, sym, ap, ap₂, ◌∙◌, codes}
 use Rattle.std.specs.BTreeMap.{BTreeMap, IsOrdered}
 use Rattle.ids.specs.Names.{object_text}
 use Rattle.ids.specs.declared.cells.CellKey.TheVariants as key
@@ -9,7 +9,7 @@ use Rattle.ids.specs.declared.names.VatNo.{VatNo}
 use Rattle.kernele.specs.Tree.{Name}
 use Rattle.std.specs.Option.{option_map}
 use Rattle.cells.specs.Seen.{seen}
-use Rattle.heap.specs.State.{State, Object, object_cell, made, nothing}
+use Rattle.heap.specs.State.{State, object_cell, made, nothing}
 use Rattle.heap.specs.View.{object_of, same_object, state_of}
 use Rattle.heap.specs.declared.made.Made.{Made}
 use Rattle.heap.specs.declared.state.VatState.{VatState}

@@ -1,5 +1,5 @@
 // The bytes that were read and not taken yet.
-ghost use Rattle.std.specs.Prelude.{◌≡◌, ◌+◌, ◌-◌, ◌<◌, ◌≤◌, [], ◌++◌, length, take, drop, slice_range, IfOk, OnOk, OnErr, is_some, vec_len};
+ghost use Rattle.std.specs.Prelude.{◌≡◌, ◌+◌, ◌-◌, ◌<◌, ◌≤◌, [], length, take, drop, IfOk, OnErr, is_some, vec_len};
 ghost use Rattle.std.specs.List.{position};
 ghost use Rattle.stepper_commands.specs.Lines.{is_line_feed};
 ghost use Rattle.stepper_streams.specs.Counted.{inner, failures, Counts};

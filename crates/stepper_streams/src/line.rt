@@ -1,5 +1,5 @@
 // A line, as its bytes are gathered.
-ghost use Rattle.std.specs.Prelude.{◌≡◌, ◌+◌, ◌<◌, ◌≤◌, [], ◌++◌, length, OnOk, OnErr, MatchOption, false, vec_len, vec_capacity};
+ghost use Rattle.std.specs.Prelude.{◌≡◌, ◌+◌, ◌<◌, ◌≤◌, [], ◌++◌, length, OnOk, MatchOption, false, vec_len, vec_capacity};
 ghost use Rattle.stepper_commands.specs.Lines.{without_return};
 ghost use Rattle.stepper_commands.specs.declared.command.TheConstants.{LONGEST_LINE};
 

@@ -2,8 +2,8 @@
 
 use crate::fakes::{dripping, ending_of};
 use book::book::Book;
-use book::fault::WorkFault;
 use book_crew::crew::{Crew, Order};
+use book_refusals::fault::WorkFault;
 use std::alloc::Global;
 use std::io;
 use std::io::{Error, ErrorKind, Write};

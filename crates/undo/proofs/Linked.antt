@@ -1,5 +1,5 @@
 -- Places, followers and heirs stay right through the calls of a core.
-use Rattle.std.proofs.Common.{◌≡◌, ◌∙◌, ℕ, zero, suc, ◌+◌, ◌<◌, ◌==◌, true, cond, List, [], ◌∷◌, ◌++◌, Option, Some, None, length, map, set, get_or, drop, slice_get, refl, sym, ap, ap₂, subst, arith}
+use Rattle.std.proofs.Common.{◌≡◌, ◌∙◌, ℕ, zero, suc, ◌+◌, ◌<◌, ◌==◌, cond, List, [], ◌∷◌, ◌++◌, Option, Some, None, length, map, set, get_or, drop, slice_get, refl, sym, ap, ap₂, subst, arith}
 use Rattle.std.proofs.Math.Bool.{Bool-set}
 use Rattle.std.proofs.Math.Logic.{∥∥₁_elim, ∥∥₁_map}
 use Rattle.std.proofs.lemmas.List.{length-map}
@@ -14,7 +14,7 @@ use Rattle.journal_links.specs.declared.followers.Followers.{Followers}
 use Rattle.journal_links.proofs.Placing.{places_none, places_same, places_more, places_swapped, room_of}
 use Rattle.journal_links.proofs.Following.{Keeps}
 use Rattle.journal.specs.Items.{Item, item_of, exchanged}
-use Rattle.journal.specs.Links.{AreFollowers, AreHeirs, AreListed, IsListed, names_of}
+use Rattle.journal.specs.Links.{AreFollowers, AreHeirs, IsListed, names_of}
 use Rattle.journal.specs.Settled.{written_by}
 use Rattle.journal.specs.SettledView.{settled_item, items_in}
 use Rattle.journal.specs.declared.entry.Entry.{Entry}

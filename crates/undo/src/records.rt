@@ -3,7 +3,7 @@ ghost use Rattle.std.specs.Prelude.{◌≡◌, ◌++◌, true, length, map, IfOk
 ghost use Rattle.history.specs.Records.{swap_state, swap_record};
 ghost use Rattle.ids.specs.declared.cells.CellKey.{CellKey};
 ghost use Rattle.world_cells.specs.View.{seen_of_world, is_ready, swaps_of, RisesBy};
-ghost use Rattle.world_cells.specs.Theory.{cells, state_of_world, kept_of, kepts_of, all_pass};
+ghost use Rattle.world_cells.specs.Theory.{cells, state_of_world, kepts_of, all_pass};
 
 use ids::cells::CellKey;
 use std::alloc::{AllocError, Global};

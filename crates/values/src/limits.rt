@@ -1,5 +1,5 @@
 // How large a value may be.
-ghost use Rattle.std.specs.Prelude.{◌≡◌, ◌+◌, ◌-◌, ◌≤◌, SomeIff, OnSome, IsSome};
+ghost use Rattle.std.specs.Prelude.{◌≡◌, ◌+◌, ◌-◌, ◌≤◌, SomeIff};
 ghost use Rattle.values.specs.Limits.{weight as weight_of, weights, list_depth, deepest, within_limits as within};
 ghost use Rattle.values.specs.View.{val_of, vals_of};
 
@@ -80,14 +80,8 @@ pub(crate) fn item_depth(value: &Value) -> u32
 {
     match value {
         Value::List(items) => items.depth() + 1,
-        Value::Null
-        | Value::Bool(_)
-        | Value::Int(_)
-        | Value::Text(_)
-        | Value::Object(_)
-        | Value::Ejector(_)
-        | Value::Promise(_)
-        | Value::Broken(_) => 0,
+        Value::Null | Value::Bool(_) | Value::Int(_) | Value::Text(_) => 0,
+        Value::Object(_) | Value::Ejector(_) | Value::Promise(_) | Value::Broken(_) => 0,
     }
 }
 

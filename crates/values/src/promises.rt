@@ -13,13 +13,8 @@ pub fn has_promise(value: &Value) -> bool
     match value {
         Value::Promise(_) => true,
         Value::List(items) => items.promised(),
-        Value::Null
-        | Value::Bool(_)
-        | Value::Int(_)
-        | Value::Text(_)
-        | Value::Object(_)
-        | Value::Ejector(_)
-        | Value::Broken(_) => false,
+        Value::Null | Value::Bool(_) | Value::Int(_) | Value::Text(_) => false,
+        Value::Object(_) | Value::Ejector(_) | Value::Broken(_) => false,
     }
 }
 

@@ -2,10 +2,10 @@ use Rattle.std.proofs.Common.{◌∙◌, ap, subst, Option, Some}
 use Rattle.std.proofs.lemmas.Result.{err_from_is_err_and}
 use Rattle.book_agenda.specs.declared.agenda.Step.{Step}
 use Rattle.book_agenda.specs.declared.agenda.Step.TheVariants as step
+use Rattle.book_refusals.specs.Fault.{Tells}
 use Rattle.book.specs.Books.{Book}
 use Rattle.book.specs.BookView.{book_of}
-use Rattle.book.specs.Calls.{Lends}
-use Rattle.book.specs.Fault.{Tells}
+use Rattle.book.specs.Calls.{Lends, Makes}
 use Rattle.bench.specs.Author.{FirstIn}
 use Rattle.bench.proofs.Rooms.{refusal_at, refuses_pick}
 use Rattle.bench.proofs.pick.pick_first.Goals as goal
@@ -18,34 +18,22 @@ returns-in_ok-ticket-in-Turn-clause-ok c =
     let lends = subst (λ (b : Book). Lends c.in-Turn.message c.args.budget c.args.seat c.in_ok-ticket-in-Turn.ticket b now) c.next.ensures.same c.in_ok-ticket-in-Turn.ensures.ok.1 in
     (c.in-Turn.message, first, lends)
 
-pub returns-in_err-event-in-Arrive-clause-err : goal.returns-in_err-event-in-Arrive-clause-err
-returns-in_err-event-in-Arrive-clause-err c =
+pub returns-in_ok-event-in-Move-clause-ok : goal.returns-in_ok-event-in-Move-clause-ok
+returns-in_ok-event-in-Move-clause-ok c =
     let old = book_of c.args.book.now in
-    let s = step.Arrive c.in-Arrive.message in
-    let fault = c.in_err-event-in-Arrive.field-0.0 in
-    let may = subst (λ (o : Option Step). FirstIn old o) (c.in-Some.is ∙ ap (λ (s : Step). Some s) c.in-Arrive.is) c.in_ok-step.ensures.first in
-    let told = subst (λ (b : Book). Tells fault (refusal_at c.args.budget s b)) c.next.ensures.same c.in_err-event-in-Arrive.ensures.err in
-    let p = err_from_is_err_and c.from_residual-in_err-event-in-Arrive.result c.from_residual-in_err-event-in-Arrive.ensures.1 in
-    rw (p.1, p.2) (refuses_pick c.args.budget old s fault may told)
+    let now = book_of c.enter.new.self in
+    let first = subst (λ (o : Option Step). FirstIn old o) (c.in-Some.is ∙ ap (λ (s : Step). Some s) c.in-Move.is) c.in_ok-step.ensures.first in
+    let makes = subst (λ (b : Book). Makes c.in-Move.what c.args.seat c.in_ok-event-in-Move.event b now) c.next.ensures.same c.in_ok-event-in-Move.ensures.ok in
+    (c.in-Move.what, first, record { foot = makes.1.0; enters = makes.1.1 })
 
-pub returns-in_err-event-in-Forward-clause-err : goal.returns-in_err-event-in-Forward-clause-err
-returns-in_err-event-in-Forward-clause-err c =
+pub returns-in_err-event-in-Move-clause-err : goal.returns-in_err-event-in-Move-clause-err
+returns-in_err-event-in-Move-clause-err c =
     let old = book_of c.args.book.now in
-    let s = step.Forward c.in-Forward.message in
-    let fault = c.in_err-event-in-Forward.field-0.0 in
-    let may = subst (λ (o : Option Step). FirstIn old o) (c.in-Some.is ∙ ap (λ (s : Step). Some s) c.in-Forward.is) c.in_ok-step.ensures.first in
-    let told = subst (λ (b : Book). Tells fault (refusal_at c.args.budget s b)) c.next.ensures.same c.in_err-event-in-Forward.ensures.err in
-    let p = err_from_is_err_and c.from_residual-in_err-event-in-Forward.result c.from_residual-in_err-event-in-Forward.ensures.1 in
-    rw (p.1, p.2) (refuses_pick c.args.budget old s fault may told)
-
-pub returns-in_err-event-in-Learn-clause-err : goal.returns-in_err-event-in-Learn-clause-err
-returns-in_err-event-in-Learn-clause-err c =
-    let old = book_of c.args.book.now in
-    let s = step.Learn c.in-Learn.vat c.in-Learn.promise in
-    let fault = c.in_err-event-in-Learn.field-0.0 in
-    let may = subst (λ (o : Option Step). FirstIn old o) (c.in-Some.is ∙ ap (λ (s : Step). Some s) c.in-Learn.is) c.in_ok-step.ensures.first in
-    let told = subst (λ (b : Book). Tells fault (refusal_at c.args.budget s b)) c.next.ensures.same c.in_err-event-in-Learn.ensures.err in
-    let p = err_from_is_err_and c.from_residual-in_err-event-in-Learn.result c.from_residual-in_err-event-in-Learn.ensures.1 in
+    let s = step.Move c.in-Move.what in
+    let fault = c.in_err-event-in-Move.field-0.0 in
+    let may = subst (λ (o : Option Step). FirstIn old o) (c.in-Some.is ∙ ap (λ (s : Step). Some s) c.in-Move.is) c.in_ok-step.ensures.first in
+    let told = subst (λ (b : Book). Tells fault (refusal_at c.args.budget s b)) c.next.ensures.same c.in_err-event-in-Move.ensures.err in
+    let p = err_from_is_err_and c.from_residual-in_err-event-in-Move.result c.from_residual-in_err-event-in-Move.ensures.1 in
     rw (p.1, p.2) (refuses_pick c.args.budget old s fault may told)
 
 pub returns-in_err-ticket-in-Turn-clause-err : goal.returns-in_err-ticket-in-Turn-clause-err

@@ -1,4 +1,4 @@
-use Rattle.std.proofs.Common.{◌≡◌, ℕ, ◌≤◌, length, map, arith, ap, subst, All}
+use Rattle.std.proofs.Common.{◌≡◌, ℕ, ◌≤◌, length, map, arith, ap, subst}
 use Rattle.std.proofs.lemmas.List.Elements.{All-append, All-map}
 use Rattle.journal.specs.Items.{Item, item_of}
 use Rattle.journal.specs.Journals.{settled_item}

@@ -1,4 +1,4 @@
-use Rattle.std.proofs.Common.{◌<◌, length, take, get_or, refl, sym, arith}
+use Rattle.std.proofs.Common.{◌<◌, length, take, get_or, sym, arith}
 use Rattle.std.proofs.lemmas.List.{take_more, take_all}
 use Rattle.book_agenda.specs.declared.ways.Cue.TheVariants as cue
 use Rattle.book_agenda.proofs.Noting.{keeps_none, keeps_more, told_keeps}

@@ -1,11 +1,11 @@
-use Rattle.std.proofs.Common.{sym}
-use Rattle.journal.specs.Journals.{items_of}
-use Rattle.causality.proofs.Lacking.{ok_by}
-use Rattle.causality.proofs.Redoing.{crossing_walked}
-use Rattle.causality.proofs.Telling.{journal_tells}
+use Rattle.std.proofs.Common.{◌∙◌}
+use Rattle.causality.proofs.Behind.{none_of}
+use Rattle.causality.proofs.Crossed.{crossing_found}
 use Rattle.causality.proofs.selection.first_crossing.Goals as goal
 
 pub returns : goal.returns
 returns c =
-    let all = items_of c.args.journal in
-    ok_by _ _ (sym (crossing_walked c.args.names.now all (journal_tells all c.requires.journal))) c.first_crossed.result c.first_crossed.ensures
+    let j = c.args.journal in
+    let names = c.args.names.now in
+    c.first_crossed.ensures
+    ∙ crossing_found j.places.now j.followers.now j.heirs.now j.settled.now j.entries.now names j.placed j.followed j.inherited c.requires.journal (none_of names j c.requires.open) c.requires.whole

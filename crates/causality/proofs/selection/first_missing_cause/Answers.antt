@@ -1,11 +1,10 @@
-use Rattle.std.proofs.Common.{sym}
-use Rattle.journal.specs.Journals.{items_of}
-use Rattle.causality.proofs.Lacking.{ok_by}
-use Rattle.causality.proofs.Redoing.{missing_walked}
-use Rattle.causality.proofs.Telling.{journal_tells}
+use Rattle.std.proofs.Common.{◌∙◌}
+use Rattle.causality.proofs.Behind.{none_of}
+use Rattle.causality.proofs.Missed.{missing_found}
 use Rattle.causality.proofs.selection.first_missing_cause.Goals as goal
 
 pub returns : goal.returns
 returns c =
-    let all = items_of c.args.journal in
-    ok_by _ _ (sym (missing_walked c.args.names.now all (journal_tells all c.requires.journal))) c.first_missed.result c.first_missed.ensures
+    let j = c.args.journal in
+    let names = c.args.names.now in
+    c.first_missing.ensures ∙ missing_found j.places.now j.settled.now j.entries.now names j.placed c.requires.journal (none_of names j c.requires.open)

@@ -2,7 +2,7 @@ use Rattle.std.proofs.Common.{ap, ◌∙◌}
 use Rattle.kernele.specs.View.{tree_of}
 use Rattle.code.specs.Frames.{Frame, place_in}
 use Rattle.code_resolver.specs.Resolves.{right_side}
-use Rattle.code_resolver.proofs.Made.{resolved_as, resolved_def, resolved_var, resolved_assign, resolved_throw, resolved_break_ref, resolved_state_ref}
+use Rattle.code_resolver.proofs.Made.{resolved_as, resolved_def, resolved_var, resolved_assign, resolved_primitive}
 use Rattle.code_resolver.proofs.Sides.{same_side}
 use Rattle.code_resolver.proofs.resolving.with_right.Goals as goal
 
@@ -17,11 +17,5 @@ returns-in_ok-share-in-Assign c =
     let at = c.find_place-place.ensures ∙ ap (λ (f : Frame). place_in f c.in-Assign.name) c.deref.ensures.value in
     λ f r is h. resolved_as (ap tree_of c.in-Assign.is) (resolved_assign c.in_ok-share-in-Assign.ensures (same_side (ap right_side c.in-Assign.is) is h) at)
 
-pub returns-in-Throw : goal.returns-in-Throw
-returns-in-Throw c = λ f r is h. resolved_as (ap tree_of c.in-Throw.is) (resolved_throw (same_side (ap right_side c.in-Throw.is) is h))
-
-pub returns-in-BreakRef : goal.returns-in-BreakRef
-returns-in-BreakRef c = λ f r is h. resolved_as (ap tree_of c.in-BreakRef.is) (resolved_break_ref (same_side (ap right_side c.in-BreakRef.is) is h))
-
-pub returns-in-StateRef : goal.returns-in-StateRef
-returns-in-StateRef c = λ f r is h. resolved_as (ap tree_of c.in-StateRef.is) (resolved_state_ref (same_side (ap right_side c.in-StateRef.is) is h))
+pub returns-in-Primitive : goal.returns-in-Primitive
+returns-in-Primitive c = λ f r is h. resolved_as (ap tree_of c.in-Primitive.is) (resolved_primitive _ (same_side (ap right_side c.in-Primitive.is) is h))

@@ -2,11 +2,11 @@ use Rattle.std.proofs.Common.{◌≡◌, ◌∙◌, List, ap, sym}
 use Rattle.kernele.specs.declared.tree.Pattern.{Pattern}
 use Rattle.code.specs.declared.code.Code.{Code}
 use Rattle.values.specs.View.{val_of}
-use Rattle.eval_rules.specs.Doings.{datum_of, datum_read, state_end}
+use Rattle.eval_rules.specs.Doings.{datum_of, datum_read}
 use Rattle.eval_rules.specs.Outcomes.{value}
-use Rattle.eval_rules.specs.Rules.{broken_end, parts_bound, parts_end, parts_of, thrown_end}
+use Rattle.eval_rules.specs.Rules.{parts_bound, parts_end, parts_of, primitive_end}
 use Rattle.eval_rules.specs.View.{at}
-use Rattle.eval_rules.proofs.Answering.{end_to, stop_to}
+use Rattle.eval_rules.proofs.Answering.{end_to}
 use Rattle.eval_rules.proofs.Steps.{slice_of}
 use Rattle.eval.specs.Sides.{taken_at, taken_end}
 use Rattle.eval.proofs.Sides.{takes_nothing}
@@ -38,26 +38,12 @@ returns-in-Assign c =
     let a = at c.args.w.now in
     end_to c.assign.result c.args.into.now c.assign.new.w _ _ _ _ (ap (λ (e : Code). taken_end e o a) (sym c.in-Assign.is)) (ap (λ (e : Code). taken_at e o a) (sym c.in-Assign.is)) c.assign.ensures
 
-pub returns-in_ok-take_end-in-Throw : goal.returns-in_ok-take_end-in-Throw
-returns-in_ok-take_end-in-Throw c =
+pub returns-in_ok-take_end-in-Primitive : goal.returns-in_ok-take_end-in-Primitive
+returns-in_ok-take_end-in-Primitive c =
     let o = value (val_of c.args.into.now) in
     let a = at c.args.w.now in
-    let taken = c.in_ok-take_end-in-Throw.ensures in
-    stop_to c.thrown.result c.thrown.new.w _ _ _ _ (ap (λ v. thrown_end (value v)) taken.end ∙ ap (λ (e : Code). taken_end e o a) (sym c.in-Throw.is)) (taken.place ∙ ap (λ (e : Code). taken_at e o a) (sym c.in-Throw.is)) c.thrown.ensures
-
-pub returns-in_ok-take_end-in-BreakRef : goal.returns-in_ok-take_end-in-BreakRef
-returns-in_ok-take_end-in-BreakRef c =
-    let o = value (val_of c.args.into.now) in
-    let a = at c.args.w.now in
-    let taken = c.in_ok-take_end-in-BreakRef.ensures in
-    end_to c.give_broken.result c.give_broken.new.into c.give_broken.new.w _ _ _ _ (ap (λ v. broken_end (value v)) taken.end ∙ ap (λ (e : Code). taken_end e o a) (sym c.in-BreakRef.is)) (taken.place ∙ ap (λ (e : Code). taken_at e o a) (sym c.in-BreakRef.is)) c.give_broken.ensures
-
-pub returns-in_ok-take_end-in-StateRef : goal.returns-in_ok-take_end-in-StateRef
-returns-in_ok-take_end-in-StateRef c =
-    let o = value (val_of c.args.into.now) in
-    let a = at c.args.w.now in
-    let taken = c.in_ok-take_end-in-StateRef.ensures in
-    end_to c.give_state.result c.give_state.new.into c.give_state.new.w _ _ _ _ ((λ i. state_end (taken.place i).vat (value (taken.end i))) ∙ ap (λ (e : Code). taken_end e o a) (sym c.in-StateRef.is)) (taken.place ∙ ap (λ (e : Code). taken_at e o a) (sym c.in-StateRef.is)) c.give_state.ensures
+    let taken = c.in_ok-take_end-in-Primitive.ensures in
+    end_to c.give_made.result c.give_made.new.into c.give_made.new.w _ _ _ _ ((λ i. primitive_end (value (taken.end i)) (taken.place i).vat c.in-Primitive.primitive) ∙ ap (λ (e : Code). taken_end e o a) (sym c.in-Primitive.is)) (taken.place ∙ ap (λ (e : Code). taken_at e o a) (sym c.in-Primitive.is)) c.give_made.ensures
 
 pub returns-in_default : goal.returns-in_default
-returns-in_default c = takes_nothing c.args.e.now (value (val_of c.args.into.now)) (at c.args.w.now) c.in_default.not-Def c.in_default.not-Var c.in_default.not-Assign c.in_default.not-DefList c.in_default.not-Throw c.in_default.not-BreakRef c.in_default.not-StateRef
+returns-in_default c = takes_nothing c.args.e.now (value (val_of c.args.into.now)) (at c.args.w.now) c.in_default.not-Def c.in_default.not-Var c.in_default.not-Assign c.in_default.not-DefList c.in_default.not-Primitive

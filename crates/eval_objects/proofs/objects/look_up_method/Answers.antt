@@ -1,4 +1,4 @@
-use Rattle.std.proofs.Common.{sym, ◌∙◌, rules}
+use Rattle.std.proofs.Common.{rules}
 use Rattle.eval_objects.proofs.Methods.{index_gives, position_within, found_for, nowhere_for}
 use Rattle.eval_objects.proofs.objects.look_up_method.Goals as goal
 

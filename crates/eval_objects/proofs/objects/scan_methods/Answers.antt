@@ -1,4 +1,4 @@
-use Rattle.std.proofs.Common.{◌≡◌, rules, arith, length, refl, sym, ◌∙◌}
+use Rattle.std.proofs.Common.{◌≡◌, rules, length, refl, sym, ◌∙◌}
 use Rattle.eval_rules.proofs.Fitting.{first_fits, others_fit}
 use Rattle.eval_rules.proofs.Captures.{method_here, method_not}
 use Rattle.eval_objects.proofs.Methods.{method_many, none_left}

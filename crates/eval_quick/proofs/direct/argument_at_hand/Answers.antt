@@ -1,4 +1,4 @@
-use Rattle.std.proofs.Common.{rules, ap, sym, ◌∙◌, subst}
+use Rattle.std.proofs.Common.{rules, ap, sym, subst}
 use Rattle.code.specs.View.{tree_of_code}
 use Rattle.eval_rules.specs.View.{at}
 use Rattle.eval_quick.specs.Leaves.{AtHand}

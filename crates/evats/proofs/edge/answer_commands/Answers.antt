@@ -1,4 +1,3 @@
-use Rattle.std.proofs.Common.{refl}
 use Rattle.stepper.proofs.Scripting.{not_both}
 use Rattle.evats.specs.Edge.{no_block, ran}
 use Rattle.evats.proofs.Edges.{runs_as}

@@ -38,8 +38,8 @@ pub write_beginning-returns-in-List : goal.write_beginning-returns-in-List
 write_beginning-returns-in-List t c =
     rw (ap tree_of c.in-List.is ∙ tree_of-List c.in-List.items) c.write_parts.ensures
 
-pub write_beginning-returns-in-BreakRef : goal.write_beginning-returns-in-BreakRef
-write_beginning-returns-in-BreakRef t c = rw (ap tree_of c.in-BreakRef.is, ← c.deref-in-BreakRef.ensures) c.write_part-in-BreakRef.ensures
+pub write_beginning-returns-in-Primitive : goal.write_beginning-returns-in-Primitive
+write_beginning-returns-in-Primitive t c = rw (ap tree_of c.in-Primitive.is, ← c.words.ensures, ← c.deref-in-Primitive.ensures) c.write_part-in-Primitive.ensures
 
 pub write_beginning-returns-in-Hide : goal.write_beginning-returns-in-Hide
 write_beginning-returns-in-Hide t c =

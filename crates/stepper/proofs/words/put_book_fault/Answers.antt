@@ -1,5 +1,5 @@
 use Rattle.std.proofs.Common.{ap, sym}
-use Rattle.book.specs.Fault.{fault_text}
+use Rattle.book_refusals.specs.Fault.{fault_text}
 use Rattle.stepper_streams.proofs.Giving.{tells_as}
 use Rattle.stepper.proofs.words.put_book_fault.Goals as goal
 

@@ -2,8 +2,8 @@ use Rattle.std.proofs.Common.{◌≡◌, ◌==◌, ap, ◌∙◌, false, true, a
 use Rattle.std.specs.List.{position_or_len}
 use Rattle.stepper_commands.specs.Words.{is_blank, is_bare, words_in}
 use Rattle.stepper_commands.specs.Commands.{is_among}
-use Rattle.stepper_commands.proofs.Wording.{blanks_gone, words_behind_blanks, shorter_behind}
-use Rattle.stepper_commands.proofs.Vats.{among_not, among_here, among_none}
+use Rattle.stepper_commands.proofs.Wording.{blanks_gone, words_behind_blanks}
+use Rattle.stepper_commands.proofs.Vats.{among_not, among_here}
 use Rattle.stepper_commands.proofs.command.is_among.Goals as goal
 
 pub words-init : goal.words-init

@@ -2,7 +2,7 @@ use Rattle.std.proofs.Common.{◌≡◌, ◌==◌, ap, sym, ◌∙◌, false, tr
 use Rattle.std.specs.List.{position_or_len}
 use Rattle.std.specs.Prelude.{is_some}
 use Rattle.stepper_commands.specs.Words.{is_blank, is_bare, words_in}
-use Rattle.stepper_commands.specs.Numbers.{events_named, one_or_more}
+use Rattle.stepper_commands.specs.Numbers.{events_named}
 use Rattle.stepper_commands.proofs.Wording.{blanks_gone, words_behind_blanks}
 use Rattle.stepper_commands.proofs.Events.{no_word, some_word, event_not, event_here, all_events}
 use Rattle.stepper_commands.proofs.numbers.are_events.Goals as goal

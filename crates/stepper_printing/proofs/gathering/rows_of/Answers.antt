@@ -1,4 +1,4 @@
-use Rattle.std.proofs.Common.{◌≡◌, ◌+◌, ◌∷◌, ◌++◌, ◌∙◌, [], append_assoc, append-nil, drop, sym, ap, map, refl, arith}
+use Rattle.std.proofs.Common.{◌≡◌, ◌+◌, ◌∷◌, ◌++◌, ◌∙◌, append_assoc, append-nil, drop, sym, ap, map, refl, arith}
 use Rattle.std.proofs.lemmas.Grind.{common_steps}
 use Rattle.std.proofs.lemmas.List.{map-append, drop_all}
 use Rattle.std.proofs.lemmas.Option.{slice_get_read, slice_get-map}
@@ -6,8 +6,7 @@ use Rattle.std.specs.Option.{option_map}
 use Rattle.journal.specs.Items.{item_of}
 use Rattle.journal.specs.Journals.{items_of}
 use Rattle.journal.specs.Lines.{line_of}
-use Rattle.stepper_printing.specs.ListingView.{row_line, line_with}
-use Rattle.causality.specs.Selections.{numbers}
+use Rattle.stepper_printing.specs.ListingView.{row_line}
 use Rattle.stepper_printing.proofs.EventNames.{cause_line}
 use Rattle.stepper_printing.proofs.gathering.rows_of.Goals as goal
 

@@ -1,4 +1,4 @@
-use Rattle.std.proofs.Common.{subst, sym}
+use Rattle.std.proofs.Common.{subst}
 use Rattle.heap.specs.State.{State}
 use Rattle.stepper_printing.specs.Show.{StateLines}
 use Rattle.stepper_printing.specs.PictureView.{contents_text}

@@ -1,4 +1,4 @@
-use Rattle.std.proofs.Common.{◌∙◌, ◌++◌, List, [], ℕ, subst, sym, ap, append-nil}
+use Rattle.std.proofs.Common.{◌∙◌, [], subst, sym, append-nil}
 use Rattle.std.specs.Map.Iter.{deref_pair}
 use Rattle.std.proofs.lemmas.Map.Iter.{rest_more, rest_all}
 use Rattle.world_cells.specs.View.{world_of}

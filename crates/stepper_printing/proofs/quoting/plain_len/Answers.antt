@@ -1,5 +1,4 @@
-use Rattle.std.proofs.Common.{◌+◌, sym, ap, ◌∙◌, take, arith, ◌≡◌, ◌<◌, length}
-use Rattle.std.proofs.lemmas.List.{take_more}
+use Rattle.std.proofs.Common.{sym}
 use Rattle.stepper_printing.proofs.Plains.{plain_next}
 use Rattle.stepper_printing.proofs.quoting.plain_len.Goals as goal
 

@@ -1,4 +1,4 @@
-use Rattle.std.proofs.Common.{◌≡◌, ◌∷◌, [], refl, sym, append-nil, arith}
+use Rattle.std.proofs.Common.{◌∷◌, [], refl, sym, append-nil, arith}
 use Rattle.ids.specs.Quoted.{quoted_byte}
 use Rattle.stepper_streams.proofs.Giving.{tells_as, tells_none}
 use Rattle.stepper_printing.proofs.quoting.put_first.Goals as goal

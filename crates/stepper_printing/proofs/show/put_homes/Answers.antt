@@ -1,7 +1,7 @@
 use Rattle.std.proofs.Common.{◌≡◌, ◌∷◌, ◌+◌, ap, refl, drop, arith}
 use Rattle.std.proofs.lemmas.Grind.{common_steps}
 use Rattle.std.proofs.lemmas.List.{drop_all}
-use Rattle.stepper_streams.proofs.Giving.{tells_both, leads_first, leads_more, leads_all}
+use Rattle.stepper_streams.proofs.Giving.{leads_first, leads_more, leads_all}
 use Rattle.stepper_printing.specs.PictureView.{homes_text}
 use Rattle.stepper_printing.proofs.show.put_homes.Goals as goal
 

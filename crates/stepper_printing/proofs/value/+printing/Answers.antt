@@ -1,4 +1,4 @@
-use Rattle.std.proofs.Common.{◌≡◌, ◌+◌, ◌*◌, ◌<◌, ◌≤◌, ◌++◌, ◌∙◌, codes, append_assoc, refl, sym, ap, drop, rules, arith}
+use Rattle.std.proofs.Common.{◌≡◌, ◌+◌, ◌*◌, ◌<◌, ◌≤◌, ◌++◌, ◌∙◌, codes, append_assoc, sym, ap, drop, rules, arith}
 use Rattle.std.proofs.lemmas.List.{drop_all}
 use Rattle.values.specs.View.{val_of, vals_of}
 use Rattle.values.specs.Limits.{weight, weights}

@@ -3,7 +3,6 @@ use Rattle.std.specs.Option.{option_map}
 use Rattle.kernele.specs.Spelling.{bound_name}
 use Rattle.post.specs.DeliveryView.{handler_of}
 use Rattle.stepper_questions.specs.Deliveries.{handler_text}
-use Rattle.stepper_questions.specs.DeliveriesView.{braced}
 use Rattle.stepper_questions.proofs.Telling.{block_spelled}
 use Rattle.stepper_questions.proofs.message.caught_by.Goals as goal
 

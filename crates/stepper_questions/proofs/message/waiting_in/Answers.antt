@@ -1,4 +1,4 @@
-use Rattle.std.proofs.Common.{ap, ap₂, ◌++◌, ◌∷◌, codes}
+use Rattle.std.proofs.Common.{ap₂, ◌++◌, ◌∷◌, codes}
 use Rattle.values.specs.Shown.{shown}
 use Rattle.values.specs.View.{val_of}
 use Rattle.heap.specs.View.{nouns_of}

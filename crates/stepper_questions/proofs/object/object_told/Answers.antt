@@ -1,7 +1,5 @@
-use Rattle.std.proofs.Common.{ap, sym}
 use Rattle.world_cells.specs.View.{world_of}
 use Rattle.stepper_printing.proofs.Listings.{by_birth_along}
-use Rattle.stepper_questions.specs.ObjectView.{owned_of}
 use Rattle.stepper_questions.proofs.Wholes.{object_is, object_lacking}
 use Rattle.stepper_questions.proofs.object.object_told.Goals as goal
 

@@ -1,6 +1,4 @@
-use Rattle.std.proofs.Common.{ap}
-use Rattle.std.specs.Fmt.{decimal}
-use Rattle.stepper_streams.proofs.Giving.{tells_both, tells_as}
+use Rattle.stepper_streams.proofs.Giving.{tells_both}
 use Rattle.stepper_questions.proofs.reason.put_chain.Goals as goal
 
 pub returns : goal.returns

@@ -65,7 +65,7 @@ returns-in-Moved-clause-ok g c =
     let it : Moving c.in-Moved.event c.number.result old now = moving b _ _ old now h in
     let event = c.last_event-moved.ensures _ _ it.grows.journal in
     let P : ℕ × SharedView → Type 0 = λ p. Picks p.1.budget p.0 (pick.Moved c.in-Moved.event) (book_of p.1.book) now in
-    (subst P (λ j. (c.number.ensures.is j, c.self.view_is j)) h, (it.step, it.act, it.is, record { added = c.last_event-moved.result.value; event = event; seat = c.note.ensures.seat }))
+    (subst P (λ j. (c.number.ensures.is j, c.self.view_is j)) h, (it.move, record { added = c.last_event-moved.result.value; event = event; seat = c.note.ensures.seat }))
 
 pub invariant_of-self-in-Turn : goal.invariant_of-self-in-Turn
 invariant_of-self-in-Turn g c =

@@ -4,7 +4,7 @@ use Rattle.world_cells.specs.Events.{Event}
 use Rattle.turn.specs.declared.ticket.Ran.{Ran}
 use Rattle.book.specs.Calls.{Commits}
 use Rattle.bench.specs.Author.{turn_of}
-use Rattle.book.specs.Fault.{TellsCommit}
+use Rattle.book.specs.TurnFaults.{TellsCommit}
 use Rattle.bench.specs.SharedBook.{Returns, refused}
 use Rattle.bench.specs.SharedBookView.{SharedView}
 use Rattle.bench.proofs.Acts.{returned}

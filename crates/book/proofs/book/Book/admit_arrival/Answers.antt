@@ -5,8 +5,8 @@ use Rattle.history.specs.Records.{contents}
 use Rattle.post.specs.MessageView.{message_of}
 use Rattle.world_cells.specs.Theory.{cells}
 use Rattle.world_cells.specs.View.{world_of}
+use Rattle.book_refusals.specs.Fault.{Tells}
 use Rattle.book.specs.BookView.{book_of}
-use Rattle.book.specs.Fault.{Tells}
 use Rattle.book.proofs.Admitting.{none_else, lost_arrival, grounded_arrival, room_arrival, the_message}
 use Rattle.book.proofs.book.Book.admit_arrival.Goals as goal
 

@@ -4,8 +4,9 @@ use Rattle.post.specs.MessageView.{vat_of}
 use Rattle.kernele.specs.Tree.{Name}
 use Rattle.kernele.specs.View.{program_of}
 use Rattle.world_cells.specs.World.{Content, vat_in}
+use Rattle.book_refusals.specs.Refusals.{Refusal, no_vat, first}
 use Rattle.book.specs.BookView.{book_of}
-use Rattle.book.specs.Refusals.{Refusal, no_vat, ask_refusal_by, first, check_refusal, full_refusal}
+use Rattle.book.specs.Refusals.{ask_refusal_by, check_refusal, full_refusal}
 use Rattle.book.proofs.book.Book.admit_ask.Goals as goal
 
 pub returns-in_default-clause-err : goal.returns-in_default-clause-err

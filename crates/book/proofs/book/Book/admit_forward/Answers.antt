@@ -8,8 +8,8 @@ use Rattle.world_cells.specs.Theory.{cells}
 use Rattle.world_cells.specs.View.{world_of}
 use Rattle.world_cells.specs.World.{World}
 use Rattle.event.specs.Forwarding.{onward_of, to_of}
+use Rattle.book_refusals.specs.Fault.{Tells}
 use Rattle.book.specs.BookView.{book_of}
-use Rattle.book.specs.Fault.{Tells}
 use Rattle.book.proofs.Admitting.{none_else, lost_forward, stuck_forward, room_forward, waiting_message, moves_on}
 use Rattle.book.proofs.book.Book.admit_forward.Goals as goal
 

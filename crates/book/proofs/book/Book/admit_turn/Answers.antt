@@ -9,9 +9,9 @@ use Rattle.post.specs.Messages.{Message}
 use Rattle.world_cells.specs.World.{World, message}
 use Rattle.event.specs.ReadyView.{IsWay}
 use Rattle.event.specs.Walks.{found_by}
+use Rattle.book_refusals.specs.Fault.{Tells}
 use Rattle.book.specs.BookView.{book_of}
 use Rattle.book.specs.Calls.{IsReadyAt}
-use Rattle.book.specs.Fault.{Tells}
 use Rattle.book.specs.Refusals.{checkout_refusal}
 use Rattle.book.proofs.Checkouts.{lost_checkout, out_checkout, delayed_checkout, room_checkout}
 use Rattle.book.proofs.book.Book.admit_turn.Goals as goal

@@ -13,7 +13,7 @@ use Rattle.world_cells.specs.World.{World, message, vat_state}
 use Rattle.event.specs.ReadyView.{IsWay}
 use Rattle.book.specs.BookView.{book_of}
 use Rattle.book.specs.Calls.{LeadsAsBefore}
-use Rattle.book.specs.Fault.{TellsLost}
+use Rattle.book.specs.TurnFaults.{TellsLost}
 use Rattle.book.proofs.Committing.{same_message, fresh_waiting, none_waits}
 use Rattle.book.proofs.Freshness.{lost_stale}
 use Rattle.book.proofs.book.Book.check_fresh.Goals.{in_default-via-in-Some+then-is_at+then-is_at-2+else-is_found_at, in_default-via-in-Some+then-is_at+else-is_at-2, in_default-via-in-Some+else-is_at, in_default-via-in_default}

@@ -1,9 +1,9 @@
 use Rattle.std.proofs.Common.{sym, subst}
 use Rattle.std.proofs.lemmas.Result.{err_from_is_err_and}
+use Rattle.book_refusals.specs.declared.fault.BookFault.{BookFault}
 use Rattle.book.specs.BookView.{book_of}
 use Rattle.book.specs.Calls.{strange, no_room}
-use Rattle.book.specs.Fault.{TellsCommit}
-use Rattle.book.specs.declared.fault.BookFault.{BookFault}
+use Rattle.book.specs.TurnFaults.{TellsCommit}
 use Rattle.book.proofs.Freshness.{stale_commit}
 use Rattle.book.proofs.book.Book.enter_turn.Goals as goal
 

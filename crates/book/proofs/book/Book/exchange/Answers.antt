@@ -1,4 +1,4 @@
-use Rattle.std.proofs.Common.{◌≡◌, ◌∙◌, ◌-◌, ◌+◌, ◌<◌, ◌≤◌, Bool, true, List, None, length, sym, ap, ap₂, subst, arith}
+use Rattle.std.proofs.Common.{◌≡◌, ◌∙◌, ◌-◌, ◌+◌, ◌<◌, Bool, true, List, None, length, sym, ap, ap₂, subst, arith}
 use Rattle.std.specs.Prelude.{not, if◌then◌else◌}
 use Rattle.history.specs.Records.{State}
 use Rattle.world_cells.specs.Theory.{cells}
@@ -6,8 +6,8 @@ use Rattle.journal.specs.Items.{Item, may_exchange, neighbours, exchanged}
 use Rattle.journal.specs.Lines.{lines_of}
 use Rattle.undo.specs.CoreView.{items_of, settled_of, state_of, shown}
 use Rattle.desk.specs.DeskView.{out_of}
-use Rattle.book.specs.Calls.{StoodAt}
-use Rattle.book.specs.Refusals.{refuse_where, dependent, placed_refusal}
+use Rattle.book_refusals.specs.Refusals.{refuse_where, dependent}
+use Rattle.book_refusals.specs.Checks.{StoodAt, placed_refusal}
 use Rattle.book.proofs.Choosing.{stands_journal}
 use Rattle.book.proofs.Exchanging.{refused_where, book_exchanged, tried_stands}
 use Rattle.book.proofs.Noting.{noted_kept}

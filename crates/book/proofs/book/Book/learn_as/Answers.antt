@@ -3,9 +3,9 @@ use Rattle.std.proofs.lemmas.Result.{IfOk-weaker, IfErr-weaker}
 use Rattle.kernele.specs.Tree.{Name}
 use Rattle.post.specs.MessageView.{vat_of}
 use Rattle.world_cells.specs.World.{vat_in, vat_named}
+use Rattle.book_refusals.specs.Fault.{Tells}
+use Rattle.book_refusals.specs.Refusals.{no_vat}
 use Rattle.book.specs.BookView.{book_of}
-use Rattle.book.specs.Fault.{Tells}
-use Rattle.book.specs.Refusals.{no_vat}
 use Rattle.book.proofs.Learnings.{nameless, named_learning}
 use Rattle.book.proofs.book.Book.learn_as.Goals as goal
 

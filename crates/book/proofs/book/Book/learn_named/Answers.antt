@@ -6,13 +6,13 @@ use Rattle.world_cells.specs.Events.{learn}
 use Rattle.world_cells.specs.World.{vat_in, vat_named}
 use Rattle.event.specs.Events.{Foot}
 use Rattle.book_agenda.specs.Agendas.{KnownAs, can_learn}
+use Rattle.book_refusals.specs.Fault.{Tells}
+use Rattle.book_refusals.specs.declared.fault.BookFault.TheVariants as fault
 use Rattle.book.specs.Books.{Book}
 use Rattle.book.specs.BookView.{book_of, swaps_of}
 use Rattle.book.specs.Calls.{EntersNext}
-use Rattle.book.specs.Fault.{Tells}
 use Rattle.book.specs.Learning.{TellsNamed}
 use Rattle.book.specs.Refusals.{learning_refusal}
-use Rattle.book.specs.declared.fault.BookFault.TheVariants as fault
 use Rattle.book.proofs.Counting.{counts_from}
 use Rattle.book.proofs.Learnings.{tells_nameless, tells_unknown, tells_known, learns_known}
 use Rattle.book.proofs.book.Book.learn_named.Goals as goal

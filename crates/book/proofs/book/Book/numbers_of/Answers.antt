@@ -2,8 +2,8 @@ use Rattle.std.proofs.Common.{◌∙◌, Some, ap, sym}
 use Rattle.kernele.specs.Tree.{Name}
 use Rattle.post.specs.MessageView.{vat_of}
 use Rattle.world_cells.specs.World.{vat_in}
+use Rattle.book_refusals.specs.Refusals.{no_vat}
 use Rattle.book.specs.BookView.{book_of}
-use Rattle.book.specs.Refusals.{no_vat}
 use Rattle.event.proofs.Naming.{numbers_more, numbers_all}
 use Rattle.book.proofs.Named.{absent_at, none_absent}
 use Rattle.book.proofs.book.Book.numbers_of.Goals as goal

@@ -8,12 +8,12 @@ use Rattle.turn.specs.Tasks.{task_of}
 use Rattle.turn.specs.declared.ticket.Out.{Out}
 use Rattle.turn.specs.declared.ticket.Task.{Task}
 use Rattle.turn.specs.declared.ticket.Ran.{Ran}
+use Rattle.book_refusals.specs.declared.fault.BookFault.{BookFault}
 use Rattle.book.specs.Books.{Book}
 use Rattle.book.specs.BookView.{book_of, swaps_of}
 use Rattle.book.specs.Calls.{lent_of, turn_in, IsKnown, IsFresh, Commits}
-use Rattle.book.specs.Fault.{Unturned}
+use Rattle.book.specs.TurnFaults.{Unturned}
 use Rattle.desk.specs.Desks.{without}
-use Rattle.book.specs.declared.fault.BookFault.{BookFault}
 use Rattle.book.proofs.Committing.{lent_known, lent_fresh, lent_room, lent_way, turned, struck}
 use Rattle.book.proofs.Counting.{counts_from}
 use Rattle.book.proofs.TicketsOut.{lent_without}

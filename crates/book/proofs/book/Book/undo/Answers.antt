@@ -13,7 +13,7 @@ use Rattle.journal.specs.Journals.{items_of as journal_items}
 use Rattle.undo.specs.CoreView.{items_of, settled_of, state_of, shown}
 use Rattle.undo.specs.Written.{written_at}
 use Rattle.desk.specs.DeskView.{out_of}
-use Rattle.book.specs.Refusals.{undo_refusal}
+use Rattle.book_refusals.specs.Checks.{undo_refusal}
 use Rattle.book.proofs.Counting.{records_chosen}
 use Rattle.book.proofs.Choosing.{stands_journal, places_within, places_count}
 use Rattle.book.proofs.Entering.{stands_same}

@@ -1,4 +1,4 @@
-use Rattle.std.proofs.Common.{◌≡◌, [], true, length, refl, arith}
+use Rattle.std.proofs.Common.{◌≡◌, true, length, refl, arith}
 use Rattle.std.proofs.lemmas.Grind.{common_steps}
 use Rattle.std.proofs.lemmas.List.{nil_from_length}
 use Rattle.book_agenda.proofs.Noting.{told_keeps, watched_at, watched_none}

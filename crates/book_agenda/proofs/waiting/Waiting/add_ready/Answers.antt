@@ -1,4 +1,4 @@
-use Rattle.std.proofs.Common.{refl, sym, subst, ◌∙◌}
+use Rattle.std.proofs.Common.{refl, subst}
 use Rattle.world_cells.proofs.Worlds.{ok_follows}
 use Rattle.book_agenda.specs.Waiting.{FirstAt}
 use Rattle.book_agenda.proofs.Fronts.{gets_beside, gets_alone}

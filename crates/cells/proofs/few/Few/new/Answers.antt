@@ -1,4 +1,4 @@
-use Rattle.std.proofs.Common.{◌++◌, [], sym, ap, subst}
+use Rattle.std.proofs.Common.{◌++◌, [], sym, subst}
 use Rattle.std.specs.List.{IsDistinct}
 use Rattle.std.specs.Map.{keys_of}
 use Rattle.cells.proofs.few.Few.new.Goals as goal

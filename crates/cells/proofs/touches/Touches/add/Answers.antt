@@ -1,7 +1,6 @@
-use Rattle.std.proofs.Common.{◌≡◌, cond, Some, ap, ◌∙◌}
+use Rattle.std.proofs.Common.{ap, ◌∙◌}
 use Rattle.std.proofs.lemmas.Result.{on_ok_weaker, on_err_weaker}
 use Rattle.std.specs.Map.{lookup}
-use Rattle.indexmap.specs.IndexMap.{insert_entry}
 use Rattle.cells.proofs.Rows.{looked_inserted}
 use Rattle.cells.proofs.touches.Touches.add.Goals as goal
 

@@ -1,4 +1,4 @@
-use Rattle.std.proofs.Common.{◌≡◌, cond, true, Some, is_some, sym, ap, ◌∙◌}
+use Rattle.std.proofs.Common.{Some, is_some, ap, ◌∙◌}
 use Rattle.std.proofs.lemmas.Result.{on_ok_weaker, on_err_weaker}
 use Rattle.std.specs.Map.{lookup}
 use Rattle.std.proofs.lemmas.Map.{lookup-set_value}

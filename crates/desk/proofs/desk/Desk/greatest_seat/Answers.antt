@@ -1,4 +1,4 @@
-use Rattle.std.proofs.Common.{◌<◌, ◌≤◌, List, length, arith, map, subst, sym, All, ap, ◌≡◌, ℕ}
+use Rattle.std.proofs.Common.{◌≤◌, List, length, arith, map, subst, sym, All, ap, ◌≡◌, ℕ}
 use Rattle.std.proofs.lemmas.List.Elements.{All-map}
 use Rattle.desk.specs.declared.desk.Lent.{Lent}
 use Rattle.desk.specs.DeskView.{lent_of}

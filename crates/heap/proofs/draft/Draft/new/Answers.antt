@@ -1,13 +1,8 @@
-use Rattle.std.proofs.Common.{◌≡◌, ◌≤◌, is_some, length, arith, rules, sym, ap, subst, ◌∙◌, set}
-use Rattle.std.proofs.lemmas.Result.{on_ok_weaker, on_err_weaker, IfOk-weaker}
-use Rattle.std.specs.Arc.{arc_value}
-use Rattle.values.specs.View.{val_of}
-use Rattle.heap.specs.State.{State, Cells, top, slot_cell, object_cell, bound, held, made, write}
-use Rattle.heap.specs.View.{bind_of, object_of, state_of}
-use Rattle.heap.specs.Found.{Found, touched_in, writes_in}
+use Rattle.std.proofs.Common.{◌∙◌}
+use Rattle.heap.specs.Found.{touched_in, writes_in}
 use Rattle.heap.specs.Reaches.{state_in}
-use Rattle.heap.specs.Drafts.{is_of, with_slots, with_objects, and_slots, and_objects, writes_of, draft_of, touched_of}
-use Rattle.heap.proofs.Overlaid.{slots_none, objects_none, no_slots_touched, no_objects_touched, slot_made, slot_touched, object_made, object_touched, own_written, own_touched, beneath_written, touched_beneath, same_set, written_also, empty_list, slots_kept, objects_kept, slots_set_kept, objects_set_kept}
+use Rattle.heap.specs.Drafts.{with_slots, and_slots}
+use Rattle.heap.proofs.Overlaid.{slots_none, objects_none, no_slots_touched, no_objects_touched, same_set}
 use Rattle.heap.proofs.draft.Draft.new.Goals as goal
 
 pub returns-clause-state : goal.returns-clause-state

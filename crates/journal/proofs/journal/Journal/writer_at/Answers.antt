@@ -1,6 +1,6 @@
-use Rattle.std.proofs.Common.{◌≡◌, ◌+◌, ◌-◌, ◌<◌, ◌∙◌, Some, length, map, get_or, slice_get, sym, ap, arith}
+use Rattle.std.proofs.Common.{◌≡◌, ◌+◌, ◌-◌, ◌<◌, ◌∙◌, Some, length, map, get_or, slice_get, ap, arith}
 use Rattle.std.proofs.lemmas.List.{length-append, length-map}
-use Rattle.journal.specs.Items.{Item, item_of, lasts_of, number_of}
+use Rattle.journal.specs.Items.{item_of, lasts_of}
 use Rattle.journal.specs.Journals.{items_of, settled_item}
 use Rattle.journal.specs.Lines.{last_among, writer_of}
 use Rattle.journal.proofs.Settling.{item_before, item_behind, item_there, settled_writer, one_there}

@@ -1,9 +1,7 @@
 use Rattle.std.proofs.Common.{◌≡◌, ◌<◌, ◌≤◌, true, length, get_or, take_all, sym, ap, ◌∙◌, arith}
 use Rattle.std.specs.List.{list_any}
 use Rattle.ids.specs.CellKeys.{same_key}
-use Rattle.ids.specs.declared.cells.CellKey.{CellKey}
 use Rattle.journal.specs.Items.{item_of, last_of, lasts_of}
-use Rattle.journal.specs.Journals.{settled_item}
 use Rattle.journal.proofs.Among.{any_at}
 use Rattle.journal.proofs.Settling.{settled_wrote}
 use Rattle.journal.proofs.settled.Settled.meets.Goals as goal

@@ -1,5 +1,3 @@
-use Rattle.std.proofs.Common.{◌≡◌, ap, ◌∙◌}
-use Rattle.journal.specs.Items.{item_of}
 use Rattle.journal.proofs.Settling.{live_at}
 use Rattle.journal.proofs.settled.Settled.of_all.Goals as goal
 

@@ -1,4 +1,4 @@
-use Rattle.std.proofs.Common.{refl, subst, List, ℕ, arith}
+use Rattle.std.proofs.Common.{refl, arith}
 use Rattle.std.proofs.lemmas.Result.{err_from_is_err_and}
 use Rattle.stepper.proofs.Going.{run_begins, run_ends, run_stops_at_line, run_stops_behind, run_goes_on, run_is_cut, line_uncut, stop_uncut}
 use Rattle.stepper.proofs.engine.Engine.answer_all.Goals as goal

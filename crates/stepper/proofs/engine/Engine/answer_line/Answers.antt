@@ -1,4 +1,4 @@
-use Rattle.std.proofs.Common.{refl, ◌∙◌}
+use Rattle.std.proofs.Common.{◌∙◌}
 use Rattle.stepper.proofs.Whole.{said_text, said_fault}
 use Rattle.stepper.proofs.Going.{line_answered}
 use Rattle.stepper.proofs.engine.Engine.answer_line.Goals as goal

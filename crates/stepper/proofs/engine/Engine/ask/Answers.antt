@@ -1,4 +1,4 @@
-use Rattle.std.proofs.Common.{true, refl}
+use Rattle.std.proofs.Common.{refl}
 use Rattle.book.specs.BookView.{book_of}
 use Rattle.stepper.proofs.Answered.{refuses, ask_not_read}
 use Rattle.stepper.proofs.engine.Engine.ask.Goals as goal

@@ -1,8 +1,7 @@
 use Rattle.std.proofs.Common.{refl, sym, subst}
 use Rattle.book.specs.Books.{Book}
 use Rattle.book.specs.BookView.{book_of}
-use Rattle.stepper_commands.specs.Commands as commands
-use Rattle.stepper.specs.Replies.{Answers, EnabledIn}
+use Rattle.stepper.specs.Replies.{EnabledIn}
 use Rattle.stepper.proofs.Answered.{refuses, none_enabled, happens_from}
 use Rattle.stepper.proofs.engine.Engine.enabled.Goals as goal
 

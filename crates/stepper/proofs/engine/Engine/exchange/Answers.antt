@@ -1,4 +1,4 @@
-use Rattle.std.proofs.Common.{true, false, refl}
+use Rattle.std.proofs.Common.{refl}
 use Rattle.book.specs.BookView.{book_of}
 use Rattle.stepper.proofs.Answered.{accepts, refuses, exchange_done, exchange_fails}
 use Rattle.stepper.proofs.engine.Engine.exchange.Goals as goal

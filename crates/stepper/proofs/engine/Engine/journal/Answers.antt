@@ -1,4 +1,4 @@
-use Rattle.std.proofs.Common.{refl, subst, sym, ◌∙◌}
+use Rattle.std.proofs.Common.{refl}
 use Rattle.book.specs.BookView.{book_of}
 use Rattle.stepper.specs.Replies.{journal_without_memory}
 use Rattle.stepper.proofs.Answered.{accepts, refuses, listed_as}

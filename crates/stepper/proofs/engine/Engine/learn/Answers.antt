@@ -1,4 +1,4 @@
-use Rattle.std.proofs.Common.{true, false, refl}
+use Rattle.std.proofs.Common.{refl}
 use Rattle.book.specs.BookView.{book_of}
 use Rattle.stepper.specs.Replies.{learn_without_memory}
 use Rattle.stepper.proofs.Answered.{accepts, refuses, learn_done, learn_fails}

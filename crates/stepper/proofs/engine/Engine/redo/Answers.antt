@@ -1,4 +1,4 @@
-use Rattle.std.proofs.Common.{true, false, refl}
+use Rattle.std.proofs.Common.{refl}
 use Rattle.book.specs.BookView.{book_of}
 use Rattle.stepper.proofs.Answered.{accepts, refuses, redo_done, redo_fails}
 use Rattle.stepper.proofs.engine.Engine.redo.Goals as goal

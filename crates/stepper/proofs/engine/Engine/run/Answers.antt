@@ -1,4 +1,4 @@
-use Rattle.std.proofs.Common.{◌≡◌, subst, arith, ◌∙◌, sym, true, false}
+use Rattle.std.proofs.Common.{◌≡◌, subst, arith}
 use Rattle.stepper.proofs.Running.{SoFar, as_more, none_so_far, one_more, last_step, cut_step, all_steps}
 use Rattle.stepper.proofs.engine.Engine.run.Goals as goal
 

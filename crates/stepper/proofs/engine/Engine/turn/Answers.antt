@@ -1,4 +1,4 @@
-use Rattle.std.proofs.Common.{true, false, not, refl, sym, ap}
+use Rattle.std.proofs.Common.{refl}
 use Rattle.book.specs.BookView.{book_of}
 use Rattle.stepper.proofs.Answered.{accepts, refuses, turn_done, turn_fails}
 use Rattle.stepper.proofs.engine.Engine.turn.Goals as goal

@@ -1,4 +1,4 @@
-use Rattle.std.proofs.Common.{true, false, refl}
+use Rattle.std.proofs.Common.{refl}
 use Rattle.book.specs.BookView.{book_of}
 use Rattle.stepper.proofs.Answered.{accepts, refuses, undo_done, undo_fails}
 use Rattle.stepper.proofs.engine.Engine.undo.Goals as goal

@@ -1,6 +1,6 @@
 use Rattle.std.proofs.Common.{refl}
 use Rattle.book.specs.BookView.{book_of}
-use Rattle.stepper.proofs.Answered.{refuses, happens_as, cone_undone, undo_cone_fails}
+use Rattle.stepper.proofs.Answered.{refuses, cone_undone, undo_cone_fails}
 use Rattle.stepper.proofs.engine.Engine.undo_cone.Goals as goal
 
 pub returns-in-Ok : goal.returns-in-Ok

@@ -1,7 +1,7 @@
-use Rattle.std.proofs.Common.{◌≡◌, ℕ, min, IfOk, IfErr, arith, true, false, refl, sym, ap, ◌∙◌, subst}
+use Rattle.std.proofs.Common.{◌≡◌, ℕ, min, IfOk, IfErr, arith, true, refl, sym, ap, ◌∙◌, subst}
+use Rattle.book_refusals.specs.Fault.{work_text}
 use Rattle.book.specs.BookView.{book_of}
 use Rattle.book.specs.Books as books
-use Rattle.book.specs.Fault.{work_text}
 use Rattle.book.specs.declared.book.Book.{Book}
 use Rattle.stepper_commands.specs.Commands as commands
 use Rattle.book_crew.specs.Work.{Worked, RefusesWork}

@@ -1,4 +1,3 @@
-use Rattle.ids.specs.Cells.{message_cmp, promise_cmp}
 use Rattle.std.proofs.Common.{refl}
 use Rattle.world_cells.specs.View.{world_of}
 use Rattle.stepper_printing.proofs.Listings.{by_birth_along}

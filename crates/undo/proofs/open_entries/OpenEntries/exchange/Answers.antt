@@ -1,7 +1,6 @@
-use Rattle.std.proofs.Common.{◌≡◌, ◌∙◌, ◌+◌, ◌-◌, ◌<◌, ◌≤◌, true, length, take, drop, ap, sym, arith}
+use Rattle.std.proofs.Common.{◌∙◌, ◌+◌, ◌-◌, ◌<◌, length, take, drop, ap, arith}
 use Rattle.std.specs.List.{list_all}
 use Rattle.std.proofs.lemmas.List.{length-drop}
-use Rattle.journal.specs.Items.{exchanged}
 use Rattle.undo.specs.Emptied.{is_emptied}
 use Rattle.undo.proofs.Exchanging.{swap_is, drop_turned, take_turned}
 use Rattle.undo.proofs.open_entries.OpenEntries.exchange.Goals as goal

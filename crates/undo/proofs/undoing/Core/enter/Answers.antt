@@ -17,13 +17,11 @@ use Rattle.undo.proofs.Behind.{step_behind, ready_behind, count_behind, entered_
 use Rattle.undo.proofs.Looping.{both_true}
 use Rattle.undo.proofs.Positions.{on_err, entered_is, ready_last, count_last}
 use Rattle.ids.specs.declared.names.EventName.{EventName}
-use Rattle.journal_links.specs.Places.{place_of, ArePlaces}
 use Rattle.journal_links.specs.Followers.{may_follow}
 use Rattle.journal_links.specs.Heirs.{is_heir}
 use Rattle.journal.specs.Items.{lasts_of}
-use Rattle.journal.specs.Lines.{last_among}
-use Rattle.journal.specs.Links.{AreFollowers, AreHeirs, IsListed, names_of}
-use Rattle.journal.specs.Settled.{written_by}
+use Rattle.journal.specs.Links.{IsListed}
+use Rattle.journal.specs.Settled.{written_by, written_over}
 use Rattle.journal.specs.declared.entry.Touched.{Touched}
 use Rattle.world_cells.specs.declared.record.CellRecord.{CellRecord}
 use Rattle.undo.proofs.Linked.{Placed, Followed, Inherited, placed_same, placed_more, followed_kept, followed_more, inherited_kept, inherited_more}
@@ -71,8 +69,8 @@ invariant_of-self-2 c =
     let put = λ (k : EventName). c.put.ensures.put k ∙ ap (λ o. cond (k.0 == e.event.name.0) (Some (c.len.result + c.len-2.result)) o) (c.make_room.ensures.same k) in
     let follows : IsListed (may_follow c.list_follower.new.followers) e.event.name (lasts_of e.touched.items) = subst (λ (ts : List Touched). IsListed (may_follow c.list_follower.new.followers) e.event.name (lasts_of ts)) c.deref-2.ensures.value c.in_ok-list_follower.ensures.ok in
     let inherits : IsListed (is_heir c.list_heir.new.heirs) e.event.name (written_by (item_of e)) =
-    subst (λ (rs : List CellRecord). IsListed (is_heir c.list_heir.new.heirs) e.event.name (map (λ r. (r.0, last_among (lasts_of e.touched.items) r.0)) (kepts_of rs))) c.deref-4.ensures.value
-    (subst (λ (ts : List Touched). IsListed (is_heir c.list_heir.new.heirs) e.event.name (map (λ r. (r.0, last_among (lasts_of ts) r.0)) (kepts_of c.deref-4.result.now))) c.deref-3.ensures.value c.in_ok-list_heir.ensures.ok) in
+    subst (λ (rs : List CellRecord). IsListed (is_heir c.list_heir.new.heirs) e.event.name (written_over (lasts_of e.touched.items) (kepts_of rs))) c.deref-4.ensures.value
+    (subst (λ (ts : List Touched). IsListed (is_heir c.list_heir.new.heirs) e.event.name (written_over (lasts_of ts) (kepts_of c.deref-4.result.now))) c.deref-3.ensures.value c.in_ok-list_heir.ensures.ok) in
     record {
       placed = subst (Placed c.put.new.self ss) (sym c.in_ok-push.ensures.items) (placed_more b.places c.put.new.self ss xs e (c.len.result + c.len-2.result) at put b.placed);
       followed = subst (Followed c.list_follower.new.followers) (sym c.in_ok-push.ensures.items) (followed_more b.followers c.list_follower.new.followers xs e c.list_follower.ensures.kept follows b.followed);

@@ -1,0 +1,4 @@
+pub mod Alone
+pub mod Lent
+pub mod Working
+pub mod crossing

@@ -1,5 +1,0 @@
-use Rattle.std.proofs.Common.{rules}
-use Rattle.ereader_nodes.proofs.nodes.break_ref.Goals as goal
-
-pub returns : goal.returns
-returns c = search rules
