@@ -119,7 +119,7 @@ RefusesPick budget b fault = (fault ≡ Memory) ⊎ ((s : Step) × FirstIn b (So
 abbrev pub Picked : Pick → Held → Held → Type 0
 Picked pick.Nothing old now = now ≡ old
 Picked (pick.Moved e) old now = (m : Move) × Adds (record { name = e; act = act_of m }) old now
-Picked (pick.Turn t) old now = (t.seat ≡ old.number) × (now ≡ held old (Opens t.event))
+Picked (pick.Turn t) old now = (t.carried.seat ≡ old.number) × (now ≡ held old (Opens t.carried.event))
 
 -- the event that a ticket's turn becomes
 abbrev pub turn_of : Ran → Event

@@ -181,7 +181,7 @@ impl<L: Opening> SharedBook<L> {
                 Ok(Pick::Moved(event))
             }
             Pick::Turn(ticket) => {
-                let number = ticket.out().event;
+                let number = ticket.carried().event;
                 seat.note(
                     rt,
                     cell,

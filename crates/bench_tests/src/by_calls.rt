@@ -36,7 +36,7 @@ fn checkout<L: Opening>(
 ) -> Ticket<Out> {
     match bench.checkout(rt, seat) {
         Ok(Pick::Turn(ticket)) => {
-            if ticket.out().event != EventName(event) {
+            if ticket.carried().event != EventName(event) {
                 ticket.discard();
                 return rt.panic("another number");
             }

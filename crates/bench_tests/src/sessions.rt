@@ -42,7 +42,7 @@ fn finish<L: Opening>(rt: &(impl Wait + Abort), bench: &Bench<L>, mine: &mut Sea
             Ok(Pick::Nothing) => return,
             Ok(Pick::Moved(_)) => {}
             Ok(Pick::Turn(ticket)) => {
-                let event = ticket.out().event.0;
+                let event = ticket.carried().event.0;
                 give(rt, bench, run(rt, ticket), mine, event);
             }
             Err(fault) => panic!(rt; "checkout: {fault}"),

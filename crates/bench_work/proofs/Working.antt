@@ -15,7 +15,6 @@ use Rattle.world_cells.specs.declared.event.Event as code
 use Rattle.book_agenda.specs.declared.agenda.Move.{Move}
 use Rattle.book_agenda.specs.declared.agenda.Move.TheVariants as move
 use Rattle.event.specs.Events.{Foot}
-use Rattle.turn.specs.Tasks.{task_of}
 use Rattle.turn.specs.declared.ticket.Out.{Out}
 use Rattle.turn.specs.declared.ticket.Ran.{Ran}
 use Rattle.journal.specs.Lines.{Line}
@@ -135,7 +134,7 @@ module _ (before seats most : ℕ) (began : Book) (left given first behind : ℕ
   pub shop_lent : (m : MsgId) (budget seat left' first' : ℕ) (t : Out) → Lends m budget seat t old now → before < seat → left ≡ left' + 1 → first' ≤ old.next
       → ((k : ℕ) → first ≤ k → k < behind → first' ≤ k) → IsWorkshop before seats most began left' given first' (old.next + 1) false now
   shop_lent m budget seat left' first' t lends above one_left low covers =
-      let u = lent_of (task_of t) in
+      let u = lent_of t.carried in
       let lent = lends.lent in
       let named : u.number.0 ≡ old.next = lends.named in
       let d = h.drawn in
@@ -241,7 +240,7 @@ module _ (before seats most : ℕ) (began : Book) (left given first behind : ℕ
       shop_moved before seats most began left given first behind untouched old now h _ _ seat enters.enters (move_is_work p.0) (move_no_turn p.0) above within enters.same_settled enters.drawn enters.same_out
 
   pub shop_picked_turn : (t : Out) → Picks budget seat (pick.Turn t) old now → (left' first' : ℕ) → left ≡ left' + 1 → first' ≤ old.next → ((k : ℕ) → first ≤ k → k < behind → first' ≤ k)
-      → IsWorkshop before seats most began left' given first' (t.event.0 + 1) false now
+      → IsWorkshop before seats most began left' given first' (t.carried.event.0 + 1) false now
   shop_picked_turn t p left' first' one_left low covers =
       let lends = p.2 in
       subst (λ n. IsWorkshop before seats most began left' given first' (n + 1) false now) (sym lends.named)

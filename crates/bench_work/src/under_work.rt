@@ -104,7 +104,7 @@ impl<L: Shift> WorkBook<L> {
             Pick::Nothing => {}
             Pick::Moved(_) => self.untouched = false,
             Pick::Turn(ticket) => {
-                let number = ticket.out().event.0 as u64;
+                let number = ticket.carried().event.0 as u64;
                 self.first = first_lent(self.first, self.behind, number);
                 self.behind = number + 1;
                 self.left -= 1;

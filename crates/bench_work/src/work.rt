@@ -150,14 +150,14 @@ fn run_turn<L: Opening, P: Workplace<L>, G: Gate, R: Wait>(
     requires tickets { seat.deeds.tickets ≡ ticket.event ∷ [] }
     requires work { AreWork (events_of seat.deeds) }
 {
-    let message = ticket.out().name;
+    let message = ticket.carried().name;
     gate.before_turn(message);
     let ran = ticket.run();
     gate.after_turn(message);
     match ran {
         Ok(ran) => Ok(loaded(worker, seat, ran.seal())),
         Err((ticket, _)) => {
-            let number = ticket.out().event;
+            let number = ticket.carried().event;
             ticket.discard();
             Err(let_go(rt, place, seat, number))
         }

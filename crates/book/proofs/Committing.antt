@@ -31,7 +31,6 @@ use Rattle.event.specs.declared.effects.Effects.{Effects}
 use Rattle.event.specs.declared.ready.Way.{Way}
 use Rattle.journal.specs.Items.{entered}
 use Rattle.desk.specs.Desks.{Lent, without}
-use Rattle.turn.specs.Tasks.{task_of}
 use Rattle.turn.specs.declared.ticket.Out.{Out}
 use Rattle.turn.specs.declared.ticket.Task.{Task}
 use Rattle.turn.specs.declared.ticket.Ran.{Ran}
@@ -137,15 +136,15 @@ has_room b m budget e = room_for_names b (neither (option_map (refusal_of m) (ea
     (neither (refuse_where (message_out (world_message b.world m) b.out) vat_out) _ (neither (option_map (refusal_of m) (lost b.world m)) _ (neither (budget_refusal budget) _ e))))
 
 -- a ticket that was just lent and run is known and fresh, and there is room for its turn
-module _ (m : MsgId) (budget seat : ℕ) (t : Out) (old mid : Book) (r : Ran) (lends : Lends m budget seat t old mid) (same : r.carried ≡ task_of t)
+module _ (m : MsgId) (budget seat : ℕ) (t : Out) (old mid : Book) (r : Ran) (lends : Lends m budget seat t old mid) (same : r.carried ≡ t.carried)
     (found : FoundCells r.outcome.footprint (heap_state_of (arc_value t.state))) (room : checkout_refusal old m budget ≡ None) where
   abbrev lent_book : Book
-  lent_book = record old { next = old.next + 1; out = old.out ++ lent_of (task_of t) ∷ [] }
+  lent_book = record old { next = old.next + 1; out = old.out ++ lent_of t.carried ∷ [] }
 
-  known_lent : IsKnown lent_book (task_of t)
+  known_lent : IsKnown lent_book t.carried
   known_lent = record {
-    out = Contains-push old.out (lent_of (task_of t));
-    copy = λ g is. ap (λ (x : Message). record x { place = (message_of t.message).place }) (same_message g (message_of t.message) (sym is ∙ lends.carries.waiting));
+    out = Contains-push old.out (lent_of t.carried);
+    copy = λ g is. ap (λ (x : Message). record x { place = (message_of t.carried.message).place }) (same_message g (message_of t.carried.message) (sym is ∙ lends.carries.waiting));
   }
 
   pub lent_known : IsKnown mid r.carried
@@ -163,7 +162,7 @@ module _ (m : MsgId) (budget seat : ℕ) (t : Out) (old mid : Book) (r : Ran) (l
   lent_room = ap journal_full lends.lent ∙ has_room old m budget room
 
   -- its message leads where it led
-  pub lent_way : (way : Way) → IsWay old.world t.vat (message_of t.message) way → IsWay mid.world r.carried.vat (message_of r.carried.message) way
+  pub lent_way : (way : Way) → IsWay old.world t.carried.vat (message_of t.carried.message) way → IsWay mid.world r.carried.vat (message_of r.carried.message) way
   lent_way way h = subst (λ (b : Book). IsWay b.world r.carried.vat (message_of r.carried.message) way) (sym lends.lent) (subst (λ (o : Task). IsWay old.world o.vat (message_of o.message) way) (sym same) h)
 
   -- and its turn, entered, is one under the name that came next
@@ -189,20 +188,20 @@ module _ (m : MsgId) (budget seat : ℕ) (t : Out) (old mid : Book) (r : Ran) (l
     };
   }))))
 
-  pub turned : (u : Turn) (now : Book) (e : EventName) → u ≡ turn_in mid.world r → e ≡ r.carried.event → seat ≡ 0 → without t.event (old.out ++ lent_of (task_of t) ∷ []) ≡ old.out → Commits r mid now → TurnsNext e m budget u old now
+  pub turned : (u : Turn) (now : Book) (e : EventName) → u ≡ turn_in mid.world r → e ≡ r.carried.event → seat ≡ 0 → without t.carried.event (old.out ++ lent_of t.carried ∷ []) ≡ old.out → Commits r mid now → TurnsNext e m budget u old now
   turned u now e turn_is is none back h = record {
     named = ap (λ (n : EventName). n.0) is ∙ ap (λ (o : Task). o.event.0) same ∙ lends.named;
     same_settled = h.same_settled ∙ ap (λ (b : Book). b.settled) lends.lent;
     drawn = h.same_next ∙ ap (λ (b : Book). b.next) lends.lent;
-    same_out = h.out ∙ ap (λ (b : Book). without r.carried.event b.out) lends.lent ∙ ap (λ (o : Task). without o.event (old.out ++ lent_of (task_of t) ∷ [])) same ∙ back;
+    same_out = h.out ∙ ap (λ (b : Book). without r.carried.event b.out) lends.lent ∙ ap (λ (o : Task). without o.event (old.out ++ lent_of t.carried ∷ [])) same ∙ back;
     enters = subst (λ (v : Turn). EntersTurn e m budget 0 v old now) (sym turn_is) (moved (turn_in mid.world r) now r.carried.event e r.carried.name m r.carried.budget budget r.carried.seat 0 (sym is)
         (ap (λ (o : Task). o.name) same ∙ lends.of_message) (ap (λ (o : Task). o.budget) same ∙ lends.same_budget) (ap (λ (o : Task). o.seat) same ∙ lends.same_seat ∙ none)
         (subst (λ (b : Book). EntersTurn r.carried.event r.carried.name r.carried.budget r.carried.seat (turn_in mid.world r) b now) lends.lent h.enters));
   }
 
 -- a ticket that was lent and is struck out again leaves a name that is drawn, and nothing else
-pub struck : (m : MsgId) (budget seat : ℕ) (t : Out) (old mid now : Book) (e : EventName) → Lends m budget seat t old mid → e ≡ t.event → without t.event (old.out ++ lent_of (task_of t) ∷ []) ≡ old.out
+pub struck : (m : MsgId) (budget seat : ℕ) (t : Out) (old mid now : Book) (e : EventName) → Lends m budget seat t old mid → e ≡ t.carried.event → without t.carried.event (old.out ++ lent_of t.carried ∷ []) ≡ old.out
     → now ≡ record mid { out = without e mid.out } → now ≡ record old { next = old.next + 1 }
 struck m budget seat t old mid now e lends is back gone =
-    gone ∙ ap (λ (b : Book). record b { out = without e b.out }) lends.lent ∙ ap (λ (n : EventName). record old { next = old.next + 1; out = without n (old.out ++ lent_of (task_of t) ∷ []) }) is
+    gone ∙ ap (λ (b : Book). record b { out = without e b.out }) lends.lent ∙ ap (λ (n : EventName). record old { next = old.next + 1; out = without n (old.out ++ lent_of t.carried ∷ []) }) is
     ∙ ap (λ (ts : List Lent). record old { next = old.next + 1; out = ts }) back

@@ -32,7 +32,6 @@ use Rattle.turn_deliveries.specs.Outcomes.{found_of}
 use Rattle.turn_deliveries.specs.declared.lead.Lead.{Lead}
 use Rattle.event.specs.Runs.{RunFrom, PlainRun}
 use Rattle.event.specs.Effects.{turn_of}
-use Rattle.turn.specs.Tasks.{task_of}
 use Rattle.turn.specs.declared.ticket.Out.{Out}
 use Rattle.turn.specs.declared.ticket.Task.{Task}
 use Rattle.turn.specs.declared.ticket.Ran.{Ran}
@@ -115,10 +114,10 @@ Learns x p seat e old now =
 
 -- a ticket carries a message of the world that is at its vat, where it leads, and the vat's state
 pub record Carries (w : world.World) (t : Out) : Type 0 where
-  pub waiting : w (key.Msg t.name) ≡ Some (message (message_of t.message))
-  pub there : (message_of t.message).place ≡ at_vat t.vat
-  pub lead : found_of t.lead ≡ found_by w (message_of t.message).delivery
-  pub state : state_of (arc_value t.state) ≡ vat_state w t.vat
+  pub waiting : w (key.Msg t.carried.name) ≡ Some (message (message_of t.carried.message))
+  pub there : (message_of t.carried.message).place ≡ at_vat t.carried.vat
+  pub lead : found_of t.carried.lead ≡ found_by w (message_of t.carried.message).delivery
+  pub state : state_of (arc_value t.state) ≡ vat_state w t.carried.vat
 
 -- a message may arrive under the name that comes next, and is this one then
 pub record AdmitsArrival (b : Book) (m : MsgId) (e : EventName) (h : Message) : Type 0 where
@@ -167,13 +166,13 @@ pub record Admitted (b : Book) (m : MsgId) (budget : ℕ) (g : code-message.Mess
 
 -- a ticket for a message is lent to a seat: it has the name that comes next
 pub record Lends (m : MsgId) (budget seat : ℕ) (t : Out) (old now : Book) : Type 0 where
-  pub named : t.event.0 ≡ old.next
-  pub of_message : t.name ≡ m
-  pub same_budget : t.budget ≡ budget
-  pub same_seat : t.seat ≡ seat
+  pub named : t.carried.event.0 ≡ old.next
+  pub of_message : t.carried.name ≡ m
+  pub same_budget : t.carried.budget ≡ budget
+  pub same_seat : t.carried.seat ≡ seat
   pub carries : Carries old.world t
-  pub ready : IsReadyAt old.world (message_of t.message) t.vat
-  pub lent : now ≡ record old { next = old.next + 1; out = old.out ++ lent_of (task_of t) ∷ [] }
+  pub ready : IsReadyAt old.world (message_of t.carried.message) t.carried.vat
+  pub lent : now ≡ record old { next = old.next + 1; out = old.out ++ lent_of t.carried ∷ [] }
 
 -- a ticket is out, and of a message that the world has it carries a copy, their places aside
 pub record IsKnown (b : Book) (t : Task) : Type 0 where

@@ -1,7 +1,10 @@
 // Undo, redo, exchange and settling, and what comes of an event.
-ghost use Rattle.std.specs.Prelude.{◌≡◌, ◌≢◌, None, IsSome, IfOk, IfErr, OnOk, OnErr, length, filter};
+ghost use Rattle.std.specs.Prelude.{◌≡◌, ◌≢◌, ◌≤◌, All, None, true, IsSome, IfOk, IfErr, OnOk, OnErr, length, filter};
 ghost use Rattle.causality.specs.Exact.{Cone};
-ghost use Rattle.causality.specs.Selections.{chosen};
+ghost use Rattle.causality.specs.Selections.{chosen, first_settled, places_from};
+ghost use Rattle.undo.specs.CoreView.{items_of, ready_of};
+ghost use Rattle.undo.specs.Written.{written_at};
+ghost use Rattle.journal.specs.Items.{all_ready};
 ghost use Rattle.book_refusals.specs.Checks.{StoodAt, undo_refusal, redo_refusal, cone_refusal, exchange_refusal, settle_refusal};
 ghost use Rattle.book_refusals.specs.Fault.{told_by, Tells};
 ghost use Rattle.book_refusals.specs.declared.fault.BookFault.TheVariants.{Memory};
@@ -13,11 +16,33 @@ use book_refusals::fault::BookFault;
 use causality::cone::cone;
 use causality::names::NameSet;
 use causality::selection::positions;
+use ids::cells::CellKey;
 use ids::names::EventName;
+use std::alloc::AllocError;
 
 impl Book {
     ghost use Rattle.book.specs.BookView.{book_of, swaps_of};
     ghost use Rattle.book.specs.Counting.{CountsChosen};
+
+    /// The positions of a set of events of which none is settled, and the cells that they wrote; room is made for their exchange, so that it
+    /// needs no memory. Nothing else changes. Fails only for want of memory.
+    fn make_ready(
+        &mut self,
+        names: &NameSet,
+    ) -> Result<(Vec<usize>, Vec<CellKey>), AllocError>
+        requires { first_settled names.now (book_of self.old).settled (book_of self.old).journal ≡ None }
+        ensures places { IfOk result (λ r. r.0.items ≡ places_from 0 names.now (book_of self.new).journal) }
+        ensures behind { IfOk result (λ r. All (λ p. (book_of self.new).settled ≤ p) r.0.items) }
+        ensures written { IfOk result (λ r. r.1.items ≡ written_at (items_of self.new.core) r.0.items) }
+        ensures ready { IfOk result (λ r. all_ready (ready_of self.new.core) (items_of self.new.core) r.0.items ≡ true) }
+        ensures unchanged { book_of self.new ≡ book_of self.old }
+        ensures counted { swaps_of self.new ≡ swaps_of self.old }
+    {
+        let positions = positions(self.alloc, self.core.journal(), names)?;
+        let written = self.core.written_at(self.alloc, &positions)?;
+        self.core.prepare(self.alloc, &positions)?;
+        Ok((positions, written))
+    }
 
     /// Takes events back, with the world as if they had never been: nothing is run. Answers how many.
     ///
@@ -33,9 +58,7 @@ impl Book {
         let names = NameSet::new(self.alloc, events)?;
         let journal = self.core.journal();
         check_undo(self.alloc, journal, &names)?;
-        let positions = positions(self.alloc, journal, &names)?;
-        let written = self.core.written_at(self.alloc, &positions)?;
-        self.core.prepare(self.alloc, &positions)?;
+        let (positions, written) = self.make_ready(&names)?;
         self.core.undo(&positions);
         self.agenda = noted(self.alloc, self.agenda.take(), self.core.world(), &written);
         Ok(positions.len())
@@ -55,9 +78,7 @@ impl Book {
         let names = NameSet::new(self.alloc, events)?;
         let journal = self.core.journal();
         check_redo(journal, &names)?;
-        let positions = positions(self.alloc, journal, &names)?;
-        let written = self.core.written_at(self.alloc, &positions)?;
-        self.core.prepare(self.alloc, &positions)?;
+        let (positions, written) = self.make_ready(&names)?;
         self.core.redo(&positions);
         self.agenda = noted(self.alloc, self.agenda.take(), self.core.world(), &written);
         Ok(positions.len())

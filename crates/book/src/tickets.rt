@@ -148,7 +148,7 @@ impl Book {
         seat: u64,
     ) -> Result<(Ticket<Out>, Way), BookFault>
         ensures ok { IfOk result (λ r. (checkout_refusal (book_of self.old) message budget ≡ None) × Lends message budget seat r.0 (book_of self.old) (book_of self.new)) }
-        ensures way { IfOk result (λ r. IsWay (book_of self.old).world r.0.vat (message_of r.0.message) r.1) }
+        ensures way { IfOk result (λ r. IsWay (book_of self.old).world r.0.carried.vat (message_of r.0.carried.message) r.1) }
         ensures err { IfErr result (λ fault. Tells fault (checkout_refusal (book_of self.old) message budget)) }
         ensures unchanged { OnErr result (book_of self.new ≡ book_of self.old) }
         ensures counted { swaps_of self.new ≡ swaps_of self.old }
@@ -166,14 +166,16 @@ impl Book {
         self.next += 1;
         let ticket = Ticket::new(Out {
             alloc: self.alloc,
-            event,
-            name: message,
-            message: carried,
-            lead,
-            vat,
+            carried: Task {
+                event,
+                name: message,
+                message: carried,
+                lead,
+                vat,
+                budget,
+                seat,
+            },
             state,
-            budget,
-            seat,
         });
         Ok((ticket, way))
     }
@@ -379,7 +381,7 @@ impl Book {
         let ran = match ticket.run() {
             Ok(ran) => ran,
             Err((ticket, _)) => {
-                let number = ticket.out().event;
+                let number = ticket.carried().event;
                 return Err(self.drop_turn(number, ticket, BookFault::Memory));
             }
         };

@@ -32,7 +32,7 @@ pub(crate) fn checkout(
 ) -> Ticket<Out> {
     match book.checkout(message(of), BUDGET, SEAT) {
         Ok(ticket) => {
-            if ticket.out().event != EventName(event) {
+            if ticket.carried().event != EventName(event) {
                 ticket.discard();
                 return rt.panic("another number");
             }

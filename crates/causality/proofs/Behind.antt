@@ -16,7 +16,7 @@ use Rattle.causality.specs.Names.{is_writer_in, wrote_last}
 use Rattle.causality.specs.Selections.{name_of, chosen, first_name, has_mark, first_marked, places_from}
 use Rattle.causality.specs.Walks.{is_of, joins, joined_with, gathered}
 use Rattle.causality.proofs.Firsts.{some_past, none_each}
-use Rattle.causality.proofs.Indexing.{flipped}
+use Rattle.causality.proofs.Numbered.{flipped}
 
 -- settled items are live
 pub settled_live : (ss : List Settled) → AllByRecursion (λ i. i.live ≡ true) (map settled_item ss)

@@ -18,7 +18,7 @@ use Rattle.history.proofs.Chaining.{chain_ends}
 use Rattle.ids.specs.declared.names.EventName.{EventName}
 use Rattle.ids.specs.declared.cells.CellKey.{CellKey}
 use Rattle.journal.specs.Items.{Item, item_of, lasts_of, last_of, number_of}
-use Rattle.journal.specs.Lines.{plain, Line, bare, writer_of, wrote_cell, reached, is_cause, causes_in, line_of, lines_of}
+use Rattle.journal.specs.Lines.{plain, bare, writer_of, wrote_cell, reached, is_cause, causes_in}
 use Rattle.journal.specs.declared.entry.Entry as code
 use Rattle.journal.specs.declared.entry.Touched.{Touched}
 use Rattle.journal.proofs.Reversed.{map-map}
@@ -27,11 +27,14 @@ use Rattle.event.specs.Events.{DoesNoted}
 use Rattle.event.proofs.Law.{noted_laws}
 use Rattle.causality.specs.Journals.{IsJournal}
 use Rattle.causality.specs.Selections.{numbers}
-use Rattle.causality.specs.Causes.{IsWriter, place_among, Places, Indexes, place_of, has_place, passes_at, reached_at, number_at}
-use Rattle.causality.specs.declared.causes.NameIndex.{NameIndex}
+use Rattle.causality.specs.Causes.{IsWriter, writer_place, has_place, passes_at, reached_at, number_at}
+use Rattle.journal_links.specs.Places.{place_of, ArePlaces}
+use Rattle.journal_links.specs.declared.places.Places.{Places}
+use Rattle.journal.specs.Links.{names_of}
 use Rattle.causality.proofs.Ascending.{ascending, named_ascending}
 use Rattle.causality.proofs.Following.{number, named_place, one_place, here_or_on, all_place, Follows, follows}
-use Rattle.causality.proofs.Indexing.{flipped}
+use Rattle.causality.proofs.Numbered.{flipped}
+use Rattle.causality.proofs.Placed.{within_by_place}
 
 -- what holds of the item in each place holds of all
 pub all_places : {A : Type 0} (P : A → Type 0) (xs : List A) → ((p : ℕ) (x : A) → slice_get xs p ≡ Some x → P x) → AllByRecursion P xs
@@ -43,57 +46,52 @@ none_reached : (k : CellKey) (m : ℕ) (es : List (Entry plain)) → AllByRecurs
 none_reached k m [] h = refl
 none_reached k m (e ∷ es) (h, hs) = rw h (none_reached k m es hs)
 
--- the names of items as lines have them
-item_names : (items : List Item) → map (λ l. l.entry.event.name) (lines_of items) ≡ map (λ i. i.event.name) items
-item_names items = map-map (λ (l : Line). l.entry.event.name) (line_of items) items
-
-module _ (items : List Item) (index : NameIndex) (indexed : Indexes index (lines_of items)) where
-  places : Places index.places.entries (map (λ i. i.event.name) items)
-  places = subst (Places index.places.entries) (item_names items) indexed
-
+module _ (items : List Item) (places : Places) where
   -- the number at a place is that of the name there
-  number_there : (p : ℕ) → option_map number (slice_get items p) ≡ option_map (λ (e : EventName). e.0) (slice_get (map (λ i. i.event.name) items) p)
-  number_there p = sym (slice_get-map number items p) ∙ ap (λ ns. slice_get ns p) (sym (map-map (λ (e : EventName). e.0) (λ (i : Item). i.event.name) items)) ∙ slice_get-map (λ (e : EventName). e.0) (map (λ i. i.event.name) items) p
+  number_there : (p : ℕ) → option_map number (slice_get items p) ≡ option_map (λ (e : EventName). e.0) (slice_get (names_of items) p)
+  number_there p = sym (slice_get-map number items p) ∙ ap (λ ns. slice_get ns p) (sym (map-map (λ (e : EventName). e.0) (λ (i : Item). i.event.name) items)) ∙ slice_get-map (λ (e : EventName). e.0) (names_of items) p
 
   -- what is reached from the place of a writer is what is reached from the writer
-  pub reached_place : (k : CellKey) (w : Option EventName) → reached items k (named_place items (place_of index w)) ≡ reached items k (number_of w)
-  reached_place k None = refl
-  reached_place k (Some e) = by (place_among index.places.entries e) refl
+  reached_place : ArePlaces places (names_of items) → (k : CellKey) (w : Option EventName) → reached items k (named_place items (writer_place places w)) ≡ reached items k (number_of w)
+  reached_place are k None = refl
+  reached_place are k (Some e) = by (place_of places e) refl
     where
-      unnamed : place_among index.places.entries e ≡ None → (p : ℕ) (i : Item) → slice_get items p ≡ Some i → (b : Bool) → (e.0 == number i) ≡ b → (e.0 == number i) ≡ false
+      unnamed : place_of places e ≡ None → (p : ℕ) (i : Item) → slice_get items p ≡ Some i → (b : Bool) → (e.0 == number i) ≡ b → (e.0 == number i) ≡ false
       unnamed none p i at false is = is
       unnamed none p i at true is =
           let one : i.event.name ≡ e = λ j. record { 0 = sym (eqb-true e.0 (number i) is) j } in
-          let there : slice_get (map (λ (j : Item). j.event.name) items) p ≡ Some e = slice_get-map (λ (j : Item). j.event.name) items p ∙ ap (option_map (λ (j : Item). j.event.name)) at ∙ ap Some one in
-          absurd (true≢false (sym (places.all e p there) ∙ ap is_some none))
+          let there : slice_get (names_of items) p ≡ Some e = slice_get-map (λ (j : Item). j.event.name) items p ∙ ap (option_map (λ (j : Item). j.event.name)) at ∙ ap Some one in
+          absurd (true≢false (sym ((are e).all p there) ∙ ap is_some none))
 
-      by : (o : Option ℕ) → place_among index.places.entries e ≡ o → reached items k (named_place items o) ≡ reached items k (Some e.0)
+      by : (o : Option ℕ) → place_of places e ≡ o → reached items k (named_place items o) ≡ reached items k (Some e.0)
       by None none =
           chain_ends plain k (reverse (map bare items))
           ∙ sym (none_reached k e.0 (reverse (map bare items)) (all_reversed _ (map bare items) (all_mapped bare _ items (all_places _ items (λ p i at. unnamed none p i at (e.0 == number i) refl)))))
-      by (Some p) found = ap (reached items k) (number_there p ∙ ap (option_map (λ (n : EventName). n.0)) (places.right e p found))
+      by (Some p) found = ap (reached items k) (number_there p ∙ ap (option_map (λ (n : EventName). n.0)) ((are e).right p found))
+
+module _ (items : List Item) (places : Places) (placed : ∥ ArePlaces places (names_of items) ∥₁) where
+  pub reached_first : (k : CellKey) (w : Option EventName) (q : ℕ) → reached_at items k (named_place items (writer_place places w)) q ≡ reached_at items k (number_of w) q
+  reached_first k w q = ∥∥₁_elim placed (Bool-set _ _) (λ are. ap (λ ns. passes_at (λ i. is_in ns (number i)) items q) (reached_place items places are k w))
 
   -- where a writer is found there is an item
-  pub place_within : (w : Option EventName) (p : ℕ) → place_of index w ≡ Some p → p < length items
+  pub place_within : (w : Option EventName) (p : ℕ) → writer_place places w ≡ Some p → p < length items
   place_within None p h = cc
-  place_within (Some e) p h =
-      let lt : p < length (map (λ (i : Item). i.event.name) items) = slice_get_within (map (λ (i : Item). i.event.name) items) p e (places.right e p h) in
-      let same : length (map (λ (i : Item). i.event.name) items) ≡ length items = length-map items (λ (i : Item). i.event.name) in omega arith
+  place_within (Some e) p h = within_by_place places items placed e p h
 
   -- and it is whoever the writer is
-  pub writer_wrote : (k : CellKey) (w : Option EventName) → IsWriter items k (number_of w) → (p : ℕ) → place_of index w ≡ Some p → (i : Item) → slice_get items p ≡ Some i → wrote_cell i k ≡ true
+  pub writer_wrote : (k : CellKey) (w : Option EventName) → IsWriter items k (number_of w) → (p : ℕ) → writer_place places w ≡ Some p → (i : Item) → slice_get items p ≡ Some i → wrote_cell i k ≡ true
   writer_wrote k None h p found i at = cc
-  writer_wrote k (Some e) h p found i at =
-      let named : Some e.0 ≡ Some (number i) = sym (number_there p ∙ ap (option_map (λ (n : EventName). n.0)) (places.right e p found)) ∙ ap (option_map number) at in
-      all_place _ items h p i at named
+  writer_wrote k (Some e) h p found i at = ∥∥₁_elim placed (Bool-set _ _) (λ are.
+      (let named : Some e.0 ≡ Some (number i) = sym (number_there items places p ∙ ap (option_map (λ (n : EventName). n.0)) ((are e).right p found)) ∙ ap (option_map number) at in
+      all_place _ items h p i at named))
 
   module _ (journal : IsJournal items) (k : CellKey) (here : ℕ) (i : Item) (at : slice_get items here ≡ Some i) (w : Option EventName) (writer : number_of w ≡ writer_of i k) where
     -- what was reached from a place is the place and what is reached from the writer before it
     pub reached_more : (old new : List ℕ) → ((q : ℕ) → list_any (is_at (nat_cmp q)) new ≡ cond (is_at (nat_cmp here) q) true (list_any (is_at (nat_cmp q)) old))
-        → (q : ℕ) → (has_place new q || reached_at items k (named_place items (place_of index w)) q) ≡ (has_place old q || reached_at items k (named_place items (Some here)) q)
+        → (q : ℕ) → (has_place new q || reached_at items k (named_place items (writer_place places w)) q) ≡ (has_place old q || reached_at items k (named_place items (Some here)) q)
     reached_more old new updates q = ∥∥₁_elim journal (Bool-set _ _) (λ j.
         let f : Follows items = follows DoesNoted noted_laws j.3 in
-        ap₂ (λ a b. a || b) (added q) (ap (λ ns. passes_at (λ a. is_in ns (number a)) items q) (reached_place k w ∙ ap (reached items k) writer))
+        ap₂ (λ a b. a || b) (added q) (reached_first k w q ∙ ap (λ n. reached_at items k n q) writer)
         ∙ turned (here == q) (has_place old q) _
         ∙ ap (λ b. has_place old q || b)
         (sym (ap (λ ns. passes_at (λ a. is_in ns (number a)) items q) (ap (λ o. reached items k (option_map number o)) at ∙ f.on k here i at) ∙ here_or_on items f.apart here i at (reached items k (writer_of i k)) q)))
@@ -113,14 +111,14 @@ module _ (items : List Item) (index : NameIndex) (indexed : Indexes index (lines
         turned false b c = refl
 
     -- and the writer before it is older
-    pub older_place : (p : ℕ) → place_of index w ≡ Some p → p < here
-    older_place p found = ltb-true p here (∥∥₁_elim journal (Bool-set _ _) (λ j. lt-ltb p here (by (follows DoesNoted noted_laws j.3) w writer found)))
+    pub older_place : (p : ℕ) → writer_place places w ≡ Some p → p < here
+    older_place p found = ltb-true p here (∥∥₁_elim placed (Bool-set _ _) (λ are. ∥∥₁_elim journal (Bool-set _ _) (λ j. lt-ltb p here (by are (follows DoesNoted noted_laws j.3) w writer found))))
       where
-        by : Follows items → (v : Option EventName) → number_of v ≡ writer_of i k → place_of index v ≡ Some p → p < here
-        by f None is g = cc
-        by f (Some e) is g =
+        by : ArePlaces places (names_of items) → Follows items → (v : Option EventName) → number_of v ≡ writer_of i k → writer_place places v ≡ Some p → p < here
+        by are f None is g = cc
+        by are f (Some e) is g =
             let o = f.older k here i e.0 at (sym is) in
-            let there : slice_get (map number items) p ≡ Some e.0 = slice_get-map number items p ∙ number_there p ∙ ap (option_map (λ (n : EventName). n.0)) (places.right e p g) in
+            let there : slice_get (map number items) p ≡ Some e.0 = slice_get-map number items p ∙ number_there items places p ∙ ap (option_map (λ (n : EventName). n.0)) ((are e).right p g) in
             let same : p ≡ o.0 = one_place (map number items) f.apart p o.0 e.0 there o.2 in
             let lt : o.0 < here = o.1 in omega arith
 

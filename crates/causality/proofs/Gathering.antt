@@ -38,7 +38,7 @@ use Rattle.causality.proofs.Ascending.{less}
 use Rattle.causality.proofs.Behind.{gathered_past}
 use Rattle.causality.proofs.Collecting.{some_there, before_there, behind_there}
 use Rattle.causality.proofs.Following.{number, Apart, all_place}
-use Rattle.causality.proofs.Indexing.{flipped}
+use Rattle.causality.proofs.Numbered.{flipped}
 use Rattle.causality.proofs.NameSets.{in_names}
 use Rattle.causality.proofs.Pairs.{Pairs, pairs_from_end, all_from_end, pairs_unmapped, all_unmapped}
 use Rattle.causality.proofs.Placed.{bool_same, one_name, self_name, any_found, any_in, is_named, named_is, kept_right, kept_some, place_there, within_by_place, apart_items}

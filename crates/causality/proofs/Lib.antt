@@ -10,7 +10,7 @@ pub mod Facts
 pub mod Firsts
 pub mod Following
 pub mod Gaps
-pub mod Indexing
+pub mod Numbered
 pub mod Crossed
 pub mod Overwritten
 pub mod Missed

@@ -14,7 +14,7 @@ use Rattle.journal.specs.Items.{Item}
 use Rattle.journal.specs.Lines.{line_of}
 use Rattle.causality.specs.Names.{SameNames}
 use Rattle.causality.specs.Selections.{numbers, is_entered}
-use Rattle.causality.proofs.Indexing.{by_name}
+use Rattle.causality.proofs.Numbered.{by_name}
 
 among_is : (names : List EventName) (e : EventName) → is_in (numbers names) e.0 ≡ list_any (λ (n : EventName). n.0 == e.0) names
 among_is names e = any-map (λ (n : EventName). n.0) (λ m. m == e.0) names

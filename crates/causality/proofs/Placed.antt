@@ -39,7 +39,7 @@ use Rattle.causality.specs.Walks.{is_of}
 use Rattle.causality.proofs.Behind.{none_of, places_past}
 use Rattle.causality.proofs.Ascending.{Ascending, ascending, passes, above, first_is}
 use Rattle.causality.proofs.Following.{number, Apart, one_place, Follows, follows}
-use Rattle.causality.proofs.Indexing.{flipped}
+use Rattle.causality.proofs.Numbered.{flipped}
 use Rattle.causality.proofs.NameSets.{in_names, entered_is}
 
 pub bool_same : (a b : Bool) → (a ≡ true → b ≡ true) → (b ≡ true → a ≡ true) → a ≡ b

@@ -1,31 +1,18 @@
--- Where the entry of each name stands, and the places that a set of places has.
-use Rattle.std.specs.Prelude.{◌≡◌, ℕ, Bool, true, false, ◌==◌, List, map, Option, Some, is_some, slice_get, option_and_then}
+-- Where the entry of a writer stands, and the places that a set of places has.
+use Rattle.std.specs.Prelude.{◌≡◌, ℕ, Bool, true, false, ◌==◌, List, Option, Some, slice_get, option_and_then}
 use Rattle.std.specs.List.{list_any, AllByRecursion}
 use Rattle.std.specs.Option.{option_map_or}
-use Rattle.std.specs.Map.{lookup}
 use Rattle.history.specs.Journal.{is_in}
 use Rattle.ids.specs.declared.names.EventName.{EventName}
 use Rattle.ids.specs.declared.cells.CellKey.{CellKey}
 use Rattle.journal.specs.Items.{Item}
-use Rattle.journal.specs.Lines.{Line, wrote_cell, reached}
-use Rattle.causality.specs.declared.causes.NameIndex.{NameIndex}
+use Rattle.journal.specs.Lines.{wrote_cell, reached}
+use Rattle.journal_links.specs.Places.{place_of}
+use Rattle.journal_links.specs.declared.places.Places.{Places}
 
--- where a name is found
-abbrev pub place_among : List (EventName × ℕ) → EventName → Option ℕ
-place_among places e = lookup (λ n. n.0 == e.0) places
-
--- each place that is found has the name, and a name that stands somewhere is found
-pub record Places (places : List (EventName × ℕ)) (names : List EventName) : Type 0 where
-  pub right : (e : EventName) (p : ℕ) → place_among places e ≡ Some p → slice_get names p ≡ Some e
-  pub all : (e : EventName) (p : ℕ) → slice_get names p ≡ Some e → is_some (place_among places e) ≡ true
-
--- an index has the places of the names of these lines
-abbrev pub Indexes : NameIndex → List Line → Type 0
-Indexes index lines = Places index.places.entries (map (λ l. l.entry.event.name) lines)
-
--- where the index has the entry of a writer
-abbrev pub place_of : NameIndex → Option EventName → Option ℕ
-place_of index writer = option_and_then (λ e. place_among index.places.entries e) writer
+-- where the entry of a writer stands
+abbrev pub writer_place : Places → Option EventName → Option ℕ
+writer_place places writer = option_and_then (place_of places) writer
 
 -- a place is among these
 abbrev pub has_place : List ℕ → ℕ → Bool

@@ -5,62 +5,38 @@ ghost use Rattle.std.specs.Ordering.{nat_cmp};
 ghost use Rattle.std.specs.Prelude.{◌≡◌, ◌<◌, ◌||◌, ℕ, map, length, Some, IfOk, OnOk, slice_get};
 ghost use Rattle.journal.specs.Items.{Item, item_of, last_of};
 ghost use Rattle.journal.specs.Journals.{items_of};
-ghost use Rattle.journal.specs.Lines.{causes_in, lines_of};
+ghost use Rattle.journal.specs.Lines.{causes_in};
 ghost use Rattle.causality.specs.Journals.{IsJournal};
 ghost use Rattle.causality.specs.Selections.{numbers};
-ghost use Rattle.causality.specs.Causes.{Indexes, IsWriter, place_of, has_place, reached_at, number_at};
+ghost use Rattle.causality.specs.Causes.{IsWriter, writer_place, has_place, reached_at, number_at};
 
 use ids::names::EventName;
 use journal::entry::Touched;
 use journal::journal::Journal;
 use std::alloc::{AllocError, Global};
-use std::collections::{BTreeMap, BTreeSet};
+use std::collections::BTreeSet;
 
-/// Where the entry of each name stands.
-#[derive(Drop)]
-pub struct NameIndex {
-    places: BTreeMap<EventName, usize>,
-}
-
-impl NameIndex {
-    /// The index of a journal. Fails only for want of memory.
-    pub fn new(alloc: Global, journal: Journal) -> Result<NameIndex, AllocError>
-        ensures { IfOk result (λ index. Indexes index (lines_of (items_of journal.entry))) }
-    {
-        let mut places = BTreeMap::new(alloc);
-        for place in 0..journal.len() {
-            places.insert(journal.name_at(place), place)?;
-        }
-        Ok(NameIndex { places })
-    }
-
-    /// Where the entry of a writer stands, if there is one.
-    fn place_of(&self, writer: Option<EventName>) -> Option<usize>
-        ensures { result ≡ place_of self.now writer }
-    {
-        match writer {
-            Some(name) => self.places.get(&name).copied(),
-            None => None,
-        }
-    }
+/// Where the entry of a writer stands, if there is one.
+fn writer_place(journal: Journal, writer: Option<EventName>) -> Option<usize>
+    ensures { result ≡ writer_place journal.entry.places.now writer }
+{
+    journal.place_of(writer?)
 }
 
 /// Collects the places of the entries that wrote a touched cell: of its last writer, of the last writer before that one, and so on.
 fn follow(
     journal: Journal,
-    index: &NameIndex,
     cell: &Touched,
     places: &mut BTreeSet<usize>,
 ) -> Result<(), AllocError>
     requires journal { IsJournal (items_of journal) }
-    requires indexed { Indexes index.now (lines_of (items_of journal)) }
     requires wrote { IsWriter (items_of journal) (last_of cell.now).0 (last_of cell.now).1 }
     ensures { OnOk result ((q : ℕ) → has_place places.new.keys q ≡ (has_place places.old.keys q || reached_at (items_of journal.entry) (last_of cell.now).0 (last_of cell.now).1 q)) }
 {
-    let mut place = index.place_of(cell.writer);
+    let mut place = writer_place(journal, cell.writer);
     while let Some(here) = place {
         places.insert(here)?;
-        place = index.place_of(journal.writer_at(here, &cell.key));
+        place = writer_place(journal, journal.writer_at(here, &cell.key));
     }
     Ok(())
 }
@@ -86,17 +62,15 @@ fn names_at(
 pub fn causes(
     alloc: Global,
     journal: Journal,
-    index: &NameIndex,
     place: usize,
 ) -> Result<Vec<EventName>, AllocError>
     requires journal { IsJournal (items_of journal) }
-    requires indexed { Indexes index.now (lines_of (items_of journal)) }
     requires there { place < length journal.entries.now }
     ensures { IfOk result (λ names. (i : Item) → slice_get (map item_of journal.entry.entries.now) place ≡ Some i → numbers names.items ≡ causes_in (items_of journal.entry) i) }
 {
     let mut places = BTreeSet::new(alloc);
     for cell in &journal.entries[place].touched {
-        follow(journal, index, cell, &mut places)?;
+        follow(journal, cell, &mut places)?;
     }
     names_at(alloc, journal, &places)
 }

@@ -12,7 +12,7 @@ ghost use Rattle.stepper_printing.specs.ListingView.{row_line, listed_text, list
 ghost use Rattle.stepper_printing.specs.Show.{name_of};
 
 use crate::rows::{ListedEntry, Listing, Row};
-use causality::causes::{NameIndex, causes};
+use causality::causes::causes;
 use ids::names::VatNo;
 use ids::text::Text;
 use journal::journal::Journal;
@@ -66,10 +66,9 @@ fn rows_of<'j>(alloc: Global, journal: Journal<'j>) -> Result<Vec<Row<'j>>, Allo
     requires { IsJournal (items_of journal) }
     ensures { IfOk result (λ rows. map row_line rows.items ≡ map (line_of (items_of journal.entry)) (map item_of journal.entry.entries.now)) }
 {
-    let index = NameIndex::new(alloc, journal)?;
     let mut rows = Vec::with_capacity(alloc, journal.entries.len())?;
     for (place, entry) in journal.entries.iter().enumerate() {
-        let causes = causes(alloc, journal, &index, place)?;
+        let causes = causes(alloc, journal, place)?;
         rows.push(Row { entry, causes })?;
     }
     Ok(rows)
@@ -105,9 +104,8 @@ pub fn listed_entry<'j>(
     requires there { place < length journal.entries.now }
     ensures { IfOk result (λ listed. (i : Item) → slice_get (map item_of journal.entry.entries.now) place ≡ Some i → listed_text listed ≡ entry_line (born (lines_of (items_of journal.entry))) (length journal.entry.settled.now + place + 1) (line_of (items_of journal.entry) i)) }
 {
-    let index = NameIndex::new(alloc, journal)?;
     let vats = vats_born(alloc, journal)?;
-    let causes = causes(alloc, journal, &index, place)?;
+    let causes = causes(alloc, journal, place)?;
     let position = journal.settled.len() + place + 1;
     let entry = &journal.entries[place];
     Ok(ListedEntry {

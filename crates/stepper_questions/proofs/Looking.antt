@@ -4,7 +4,7 @@ use Rattle.std.specs.BTreeMap.{is_at}
 use Rattle.std.specs.Map.{lookup}
 use Rattle.ids.specs.contracts.names.EventNameOrd.TheImpl.{cmp-value}
 use Rattle.ids.specs.declared.names.EventName.{EventName}
-use Rattle.causality.proofs.Indexing.{by_name}
+use Rattle.causality.proofs.Numbered.{by_name}
 use Rattle.stepper_questions.specs.ChainView.{near_of}
 use Rattle.stepper_questions.specs.declared.chain.Near.{Near}
 

@@ -5,7 +5,7 @@ use Rattle.ids.specs.declared.names.EventName.{EventName}
 use Rattle.journal.specs.Items.{Item}
 use Rattle.journal.specs.Lines.{Line, line_of, lines_of}
 use Rattle.causality.specs.Selections.{name_of}
-use Rattle.causality.proofs.Indexing.{names_told}
+use Rattle.causality.proofs.Numbered.{names_told}
 use Rattle.stepper_questions.specs.Refusals.{place_from, place_of, standing_at, standing_of, absent, settled, pair_refusal, event_refusal}
 use Rattle.stepper_questions.specs.declared.standing.Standing.{Standing}
 use Rattle.stepper_questions.specs.declared.standing.Standing.TheVariants as standing

@@ -2,7 +2,6 @@
 ghost use Rattle.std.specs.Prelude.{◌≡◌, IfOk, IfErr};
 ghost use Rattle.std.specs.Arc.{arc_value};
 ghost use Rattle.heap.specs.Found.{Found};
-ghost use Rattle.turn.specs.Tasks.{task_of};
 ghost use Rattle.heap.specs.View.{state_of};
 ghost use Rattle.post.specs.MessageView.{message_of};
 ghost use Rattle.turn_deliveries.specs.Outcomes.{Meets, found_of};
@@ -17,32 +16,25 @@ use std::sync::Arc;
 use turn_deliveries::lead::Lead;
 use turn_deliveries::outcome::Outcome;
 
-/// A turn to be run: its event, the name of its message and the message, its vat and the vat's state, shared, the budget, and the
-/// seat that it is entered from.
+/// The task of a turn: its event, the name of its message and the message, its vat, the budget, and the seat that it is entered from.
 #[derive(Drop)]
-pub struct Out {
-    pub alloc: Global,
+pub struct Task {
     pub event: EventName,
     pub name: MsgId,
     pub message: Message,
     /// Where the message leads.
     pub lead: Lead,
     pub vat: VatNo,
-    pub state: Arc<VatState>,
     pub budget: u32,
     pub seat: u64,
 }
 
-/// The same of a turn that was run, without the state, so that it is the vat's own again when the turn is entered.
+/// A turn to be run, and the state of its vat, shared. The state is let go when the turn was run, so that it is the vat's own again.
 #[derive(Drop)]
-pub struct Task {
-    pub event: EventName,
-    pub name: MsgId,
-    pub message: Message,
-    pub lead: Lead,
-    pub vat: VatNo,
-    pub budget: u32,
-    pub seat: u64,
+pub struct Out {
+    pub alloc: Global,
+    pub carried: Task,
+    pub state: Arc<VatState>,
 }
 
 /// A turn that was run: what it carried, unchanged, and its outcome, which is that of the delivery on every state that agrees with
@@ -75,19 +67,20 @@ impl Ticket<Out> {
 
     /// Runs the turn, and lets go of the state. For want of memory the ticket comes back as it was.
     pub fn run(self) -> Result<Ticket<Ran>, (Ticket<Out>, AllocError)>
-        ensures ok { IfOk result (λ t. t.carried ≡ task_of self) }
+        ensures ok { IfOk result (λ t. t.carried ≡ self.carried) }
         ensures found { IfOk result (λ t. Found t.outcome.footprint (state_of (arc_value self.state))) }
         ensures err { IfErr result (λ e. e.0 ≡ self) }
     {
         let Ticket { stage } = self;
+        let task = &stage.carried;
         match deliver(
             stage.alloc,
-            &stage.message,
-            &stage.lead,
-            stage.event,
-            stage.vat,
+            &task.message,
+            &task.lead,
+            task.event,
+            task.vat,
             &stage.state,
-            stage.budget,
+            task.budget,
         ) {
             Ok(outcome) => Ok(with_outcome(stage, outcome)),
             Err(error) => Err((Ticket { stage }, error)),
@@ -97,43 +90,26 @@ impl Ticket<Out> {
 
 /// The ticket of a turn that was run with this outcome. The state is let go.
 fn with_outcome(stage: Out, outcome: Outcome) -> Ticket<Ran>
-    requires { Meets (message_of stage.message) (found_of stage.lead) stage.event stage.vat stage.budget outcome }
-    ensures carried { result.carried ≡ task_of stage }
+    requires { Meets (message_of stage.carried.message) (found_of stage.carried.lead) stage.carried.event stage.carried.vat stage.carried.budget outcome }
+    ensures carried { result.carried ≡ stage.carried }
     ensures outcome { result.outcome ≡ outcome }
 {
     let Out {
         alloc: _,
-        event,
-        name,
-        message,
-        lead,
-        vat,
+        carried,
         state: _,
-        budget,
-        seat,
     } = stage;
     Ticket {
-        stage: Ran {
-            carried: Task {
-                event,
-                name,
-                message,
-                lead,
-                vat,
-                budget,
-                seat,
-            },
-            outcome,
-        },
+        stage: Ran { carried, outcome },
     }
 }
 
 impl Ticket<Out> {
-    /// What is carried.
-    pub fn out(&self) -> &Out
-        ensures { result.now ≡ self.now }
+    /// What is carried, the state aside.
+    pub fn carried(&self) -> &Task
+        ensures { result.now ≡ self.now.carried }
     {
-        &self.stage
+        &self.stage.carried
     }
 }
 

@@ -6,7 +6,6 @@ ghost use Rattle.code.specs.View.{trees_of_codes};
 ghost use Rattle.heap.specs.Found.{Found};
 ghost use Rattle.heap.specs.State.{pending, view_cell, viewed};
 ghost use Rattle.heap.specs.View.{state_of};
-ghost use Rattle.turn.specs.Tasks.{task_of};
 ghost use Rattle.world_cells.specs.EventView.{event_of};
 ghost use Rattle.world_cells.specs.Events.{birth, ask, arrive, forward, learn, turn};
 ghost use Rattle.post.specs.MessageView.{message_of, published_of};
@@ -37,7 +36,7 @@ use post::message::Message;
 use post::program::{Question, Script};
 use post::published::Published;
 use std::alloc::{AllocError, AllocFailed, Global};
-use turn::ticket::{Out, Ran, Ticket};
+use turn::ticket::{Out, Ran, Task, Ticket};
 use turn_deliveries::lead::Lead;
 use undo::records::{make_rooms, swap_records};
 use world_cells::event::{Action, Event};
@@ -237,7 +236,7 @@ fn ready(alloc: Global, world: &World, vat: VatNo, name: MsgId) -> Result<(Messa
 
 /// Runs the turn of a ticket.
 fn run(ticket: Ticket<Out>) -> Result<Ran, AllocError>
-    ensures { IfOk result (λ ran. (ran.carried ≡ task_of ticket) × Found ran.outcome.footprint (state_of (arc_value ticket.state))) }
+    ensures { IfOk result (λ ran. (ran.carried ≡ ticket.carried) × Found ran.outcome.footprint (state_of (arc_value ticket.state))) }
 {
     match ticket.run() {
         Ok(ran) => Ok(ran.into_parts()),
@@ -265,14 +264,16 @@ fn run_at(
     let state = world.share_vat(alloc, vat)?;
     run(Ticket::new(Out {
         alloc,
-        event,
-        name,
-        message,
-        lead,
-        vat,
+        carried: Task {
+            event,
+            name,
+            message,
+            lead,
+            vat,
+            budget,
+            seat: NO_SEAT,
+        },
         state,
-        budget,
-        seat: NO_SEAT,
     }))
 }
 

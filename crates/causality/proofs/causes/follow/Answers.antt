@@ -1,11 +1,10 @@
 use Rattle.std.proofs.Common.{◌≡◌, ◌||◌, map, sym, ap, ◌∙◌, subst}
 use Rattle.journal.specs.Items.{number_of}
 use Rattle.journal.specs.Journals.{items_of, settled_item}
-use Rattle.journal.specs.Lines.{reached, writer_of}
-use Rattle.history.specs.Journal.{is_in}
-use Rattle.causality.specs.Causes.{IsWriter, has_place, passes_at, reached_at}
-use Rattle.causality.proofs.Following.{number, named_place, all_place}
-use Rattle.causality.proofs.Collecting.{reached_place, place_within, reached_more, older_place, writer_wrote, some_there, before_there, place_falls, none_more}
+use Rattle.journal.specs.Lines.{writer_of}
+use Rattle.causality.specs.Causes.{IsWriter, has_place, reached_at}
+use Rattle.causality.proofs.Following.{named_place, all_place}
+use Rattle.causality.proofs.Collecting.{reached_first, place_within, reached_more, older_place, writer_wrote, some_there, before_there, place_falls, none_more}
 use Rattle.causality.proofs.Telling.{journal_tells}
 use Rattle.causality.proofs.Written.{writers_wrote, found_writer}
 use Rattle.causality.proofs.causes.follow.Goals as goal
@@ -16,10 +15,10 @@ loop-place-init c =
     let k = c.args.cell.now.key in
     let w = c.args.cell.now.writer in
     record {
-      reached = λ q. ap (λ ns. has_place c.args.places.now.keys q || passes_at (λ i. is_in ns (number i)) items q)
-          (ap (λ o. reached items k (named_place items o)) c.place_of-place.ensures ∙ reached_place items c.args.index.now c.requires.indexed k w);
-      within = λ p is. place_within items c.args.index.now c.requires.indexed w p (sym c.place_of-place.ensures ∙ is);
-      wrote = λ p is i at. writer_wrote items c.args.index.now c.requires.indexed k w c.requires.wrote p (sym c.place_of-place.ensures ∙ is) i at;
+      reached = λ q. ap (λ b. has_place c.args.places.now.keys q || b)
+          (ap (λ o. reached_at items k (named_place items o) q) c.writer_place-place.ensures ∙ reached_first items c.args.journal.places.now c.args.journal.placed k w q);
+      within = λ p is. place_within items c.args.journal.places.now c.args.journal.placed w p (sym c.writer_place-place.ensures ∙ is);
+      wrote = λ p is i at. writer_wrote items c.args.journal.places.now c.args.journal.placed k w c.requires.wrote p (sym c.writer_place-place.ensures ∙ is) i at;
     }
 
 pub writer_at-requires-clause-there : goal.writer_at-requires-clause-there
@@ -34,8 +33,8 @@ loop-place-smaller c =
     let items = items_of c.args.journal in
     let here = c.in-Some.here in
     let (i, at) = some_there items here (c.loop-place.invariant.within here c.in-Some.is) in
-    place_falls c.place_of-place-in-Some.result c.loop-place.place here c.in-Some.is
-    (λ p is. older_place items c.args.index.now c.requires.indexed c.requires.journal c.args.cell.now.key here i at c.writer_at.result (c.writer_at.ensures i at) p (sym c.place_of-place-in-Some.ensures ∙ is))
+    place_falls c.writer_place-place-in-Some.result c.loop-place.place here c.in-Some.is
+    (λ p is. older_place items c.args.journal.places.now c.args.journal.placed c.requires.journal c.args.cell.now.key here i at c.writer_at.result (c.writer_at.ensures i at) p (sym c.writer_place-place-in-Some.ensures ∙ is))
 
 pub loop-place-preserved : goal.loop-place-preserved
 loop-place-preserved c =
@@ -49,12 +48,12 @@ loop-place-preserved c =
     (found_writer items k i.lasts (all_place _ items (writers_wrote items (journal_tells items c.requires.journal)) here i at)) in
     record {
       reached = λ q.
-          ap (λ o. has_place c.insert.new.self.keys q || reached_at items k (named_place items o) q) c.place_of-place-in-Some.ensures
-          ∙ reached_more items c.args.index.now c.requires.indexed c.requires.journal k here i at w writer c.loop-place.places.keys c.insert.new.self.keys c.in_ok-insert.ensures.updates.0 q
+          ap (λ o. has_place c.insert.new.self.keys q || reached_at items k (named_place items o) q) c.writer_place-place-in-Some.ensures
+          ∙ reached_more items c.args.journal.places.now c.args.journal.placed c.requires.journal k here i at w writer c.loop-place.places.keys c.insert.new.self.keys c.in_ok-insert.ensures.updates.0 q
           ∙ ap (λ o. has_place c.loop-place.places.keys q || reached_at items k (named_place items o) q) (sym c.in-Some.is)
           ∙ c.loop-place.invariant.reached q;
-      within = λ p is. place_within items c.args.index.now c.requires.indexed w p (sym c.place_of-place-in-Some.ensures ∙ is);
-      wrote = λ p is j there. writer_wrote items c.args.index.now c.requires.indexed k w wrote p (sym c.place_of-place-in-Some.ensures ∙ is) j there;
+      within = λ p is. place_within items c.args.journal.places.now c.args.journal.placed w p (sym c.writer_place-place-in-Some.ensures ∙ is);
+      wrote = λ p is j there. writer_wrote items c.args.journal.places.now c.args.journal.placed k w wrote p (sym c.writer_place-place-in-Some.ensures ∙ is) j there;
     }
 
 pub returns : goal.returns

@@ -6,12 +6,11 @@ use Rattle.heap.specs.Found.{Found}
 use Rattle.heap.specs.View.{state_of}
 use Rattle.turn.specs.declared.ticket.Out.{Out}
 use Rattle.turn.specs.declared.ticket.Task.{Task}
-use Rattle.turn.specs.Tasks.{task_of}
 use Rattle.world.proofs.step.run_at.Goals as goal
 
 pub returns-clause-ok : goal.returns-clause-ok
 returns-clause-ok c = IfOk-weaker c.run.result _ _ (λ r (same, found).
-    let all = same ∙ ap task_of c.new.ensures in
+    let all = same ∙ ap (λ (o : Out). o.carried) c.new.ensures in
     record {
       event = ap (λ (t : Task). t.event) all;
       name = ap (λ (t : Task). t.name) all;

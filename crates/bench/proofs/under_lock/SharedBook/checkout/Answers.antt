@@ -2,8 +2,7 @@ use Rattle.std.proofs.Common.{◌≡◌, ℕ, ◌∙◌, ap, arith, subst, refl}
 use Rattle.std.specs.Prelude.{slice_set}
 use Rattle.crossbeam_utils.specs.Seq.{cell_view}
 use Rattle.world_cells.specs.Events.{Event}
-use Rattle.turn.specs.declared.ticket.Out.{Out}
-use Rattle.turn.specs.Tasks.{task_of}
+use Rattle.turn.specs.declared.ticket.Task.{Task}
 use Rattle.book.specs.Books.{Book}
 use Rattle.book.specs.BookView.{book_of}
 use Rattle.book.specs.Calls.{lent_of}
@@ -82,10 +81,10 @@ invariant_of-self-in-Turn g c =
     let lends = h.2 in
     let seat = lends.same_seat ∙ c.number.ensures.is ∙ n.agreed.0 in
     let rests = rests_same old now (ap (λ (x : Book). x.journal) lends.lent) in
-    let keeper = n.keeper.1 ∙ ap (λ (o : Out). knower (slice_set all place (after (Opens o.event) deeds))) c.out.ensures in
+    let keeper = n.keeper.1 ∙ ap (λ (o : Task). knower (slice_set all place (after (Opens o.event) deeds))) c.carried.ensures in
     let total = n.total in
     let same : c.note-in-Turn.new.entries.total ≡ c.self.inside.entries.total = omega (arith, total) in
-    (n.keeper.0, i.1, shared_opened _ _ _ _ _ _ old now deeds i.2 n.agreed.1 rests (lent_of (task_of t)) seat (ap (λ (x : Book). x.out) lends.lent) keeper, counted_same _ _ _ old now i.3 same rests, i.4, i.5, i.6)
+    (n.keeper.0, i.1, shared_opened _ _ _ _ _ _ old now deeds i.2 n.agreed.1 rests (lent_of t.carried) seat (ap (λ (x : Book). x.out) lends.lent) keeper, counted_same _ _ _ old now i.3 same rests, i.4, i.5, i.6)
 
 pub returns-in-Nothing-clause-ok : goal.returns-in-Nothing-clause-ok
 returns-in-Nothing-clause-ok g c =

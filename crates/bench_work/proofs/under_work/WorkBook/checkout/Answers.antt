@@ -1,5 +1,5 @@
 use Rattle.std.proofs.Common.{◌≡◌, ◌+◌, ◌-◌, ◌≤◌, false, sym, ap, ◌∙◌, subst, arith}
-use Rattle.turn.specs.declared.ticket.Out.{Out}
+use Rattle.turn.specs.declared.ticket.Task.{Task}
 use Rattle.book.specs.BookView.{book_of}
 use Rattle.bench.specs.Author.{Picks}
 use Rattle.bench_work.specs.Workshop.{IsWorkshop}
@@ -23,7 +23,7 @@ first_lent-self-inside-requires g c =
     let now = book_of c.checkout.new.self.book in
     let budget = c.self.inside.shared.budget in
     let picks = subst (λ (p : Pick). Picks budget c.args.seat.now.number p old now) c.in-Turn.is c.in_ok-pick.ensures.ok.0 in
-    let number = ap (λ (o : Out). o.event.0) c.out.ensures ∙ picks.2.named in
+    let number = ap (λ (o : Task). o.event.0) c.carried.ensures ∙ picks.2.named in
     let drawn = c.self.invariant.drawn in
     (c.self.invariant.ordered, omega (arith, number, drawn))
 
@@ -39,10 +39,10 @@ invariant_of-self-in-Turn g c =
     let picks = subst (λ (p : Pick). Picks i.shared.budget c.args.seat.now.number p old now) c.in-Turn.is c.in_ok-pick.ensures.ok.0 in
     let some = c.if-self-eq0.false in
     let low = c.first_lent-self-inside.ensures.low in
-    let number = ap (λ (o : Out). o.event.0) c.out.ensures ∙ picks.2.named in
+    let number = ap (λ (o : Task). o.event.0) c.carried.ensures ∙ picks.2.named in
     let one_left : i.left ≡ (i.left - 1) + 1 = omega (arith, some) in
     let first : c.first_lent-self-inside.result ≤ old.next = omega (arith, low, number) in
-    subst (λ (o : Out). IsWorkshop l.before l.seats s.most s.book (i.left - 1) i.given c.first_lent-self-inside.result (o.event.0 + 1) false now) (sym c.out.ensures)
+    subst (λ (o : Task). IsWorkshop l.before l.seats s.most s.book (i.left - 1) i.given c.first_lent-self-inside.result (o.event.0 + 1) false now) (sym c.carried.ensures)
     (shop_picked_turn _ _ _ _ _ _ _ _ _ old now c.self.invariant i.shared.budget c.args.seat.now.number seated.0 seated.1 t picks (i.left - 1) c.first_lent-self-inside.result one_left first c.first_lent-self-inside.ensures.covers)
 
 pub returns-clause-work : goal.returns-clause-work

@@ -4,7 +4,6 @@ use Rattle.post.specs.MessageView.{message_of}
 use Rattle.event.specs.ReadyView.{IsWay}
 use Rattle.turn_deliveries.specs.Outcomes.{told_of}
 use Rattle.turn_deliveries.specs.declared.outcome.Outcome.{Outcome}
-use Rattle.turn.specs.Tasks.{task_of}
 use Rattle.turn.specs.declared.ticket.Out.{Out}
 use Rattle.turn.specs.declared.ticket.Task.{Task}
 use Rattle.turn.specs.declared.ticket.Ran.{Ran}
@@ -24,17 +23,17 @@ returns-in-Err-clause-unchanged c =
     let s = c.args.self.now in
     let t = c.in_ok-ticket.ticket in
     let lends = c.in_ok-ticket.ensures.ok.1 in
-    let back = lent_without s.core s.next (out_of s.desk) (lent_of (task_of t)) lends.named s.stands in
-    let number = ap (λ (o : Out). o.event) c.out.ensures ∙ ap (λ (k : Out). k.event) c.in-Err.ensures.err in
+    let back = lent_without s.core s.next (out_of s.desk) (lent_of t.carried) lends.named s.stands in
+    let number = ap (λ (o : Task). o.event) c.carried.ensures ∙ ap (λ (k : Out). k.carried.event) c.in-Err.ensures.err in
     subst (λ (f : BookFault). Unturned f (book_of s) (book_of c.drop_turn.new.self)) (sym c.drop_turn.ensures.same)
-    (inr (struck c.args.message c.args.budget 0 t (book_of s) (book_of c.lend.new.self) _ c.out.result.now.event lends number back c.drop_turn.ensures.gone))
+    (inr (struck c.args.message c.args.budget 0 t (book_of s) (book_of c.lend.new.self) _ c.carried.result.now.event lends number back c.drop_turn.ensures.gone))
 
 pub returns-in_default-clause-unchanged : goal.returns-in_default-clause-unchanged
 returns-in_default-clause-unchanged c =
     let s = c.args.self.now in
     let t = c.in_ok-ticket.ticket in
     let lends = c.in_ok-ticket.ensures.ok.1 in
-    let back = lent_without s.core s.next (out_of s.desk) (lent_of (task_of t)) lends.named s.stands in
+    let back = lent_without s.core s.next (out_of s.desk) (lent_of t.carried) lends.named s.stands in
     let number = ap (λ (r : Ran). r.carried.event) c.ran.ensures ∙ ap (λ (o : Task). o.event) c.in-Ok.ensures.ok in
     subst (λ (f : BookFault). Unturned f (book_of s) (book_of c.drop_turn-in_default.new.self)) (sym c.drop_turn-in_default.ensures.same)
     (inr (struck c.args.message c.args.budget 0 t (book_of s) (book_of c.lend.new.self) _ c.ran.result.now.carried.event lends number back c.drop_turn-in_default.ensures.gone))
@@ -62,7 +61,7 @@ returns-in-Ok-enter_ran-clause-ok c =
     let t = c.in_ok-ticket.ticket in
     let r = c.in-Ok.ran in
     let lends = c.in_ok-ticket.ensures.ok.1 in
-    let back = lent_without s.core s.next (out_of s.desk) (lent_of (task_of t)) lends.named s.stands in
+    let back = lent_without s.core s.next (out_of s.desk) (lent_of t.carried) lends.named s.stands in
     let mid = book_of c.lend.new.self in
     let now = book_of c.enter_ran.new.self in
     let committed = subst (λ (x : Ran). Commits x mid now) c.ran-2.ensures c.in-Ok-enter_ran.ensures.ok in
@@ -87,7 +86,7 @@ returns-clause-unchanged c =
     let s = c.args.self.now in
     let t = c.in_ok-ticket.ticket in
     let lends = c.in_ok-ticket.ensures.ok.1 in
-    let back = lent_without s.core s.next (out_of s.desk) (lent_of (task_of t)) lends.named s.stands in
+    let back = lent_without s.core s.next (out_of s.desk) (lent_of t.carried) lends.named s.stands in
     let number = ap (λ (r : Ran). r.carried.event) c.ran.ensures ∙ ap (λ (o : Task). o.event) c.in-Ok.ensures.ok in
     let gone = c.drop_turn-in-Err-enter_ran.ensures.gone ∙ ap (λ (k : Book). record k { out = without c.ran.result.now.carried.event k.out }) c.in-Err-enter_ran.ensures.unchanged in
     subst (λ (f : BookFault). Unturned f (book_of s) (book_of c.drop_turn-in-Err-enter_ran.new.self)) (sym c.drop_turn-in-Err-enter_ran.ensures.same)
