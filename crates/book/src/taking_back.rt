@@ -26,10 +26,7 @@ impl Book {
 
     /// The positions of a set of events of which none is settled, and the cells that they wrote; room is made for their exchange, so that it
     /// needs no memory. Nothing else changes. Fails only for want of memory.
-    fn make_ready(
-        &mut self,
-        names: &NameSet,
-    ) -> Result<(Vec<usize>, Vec<CellKey>), AllocError>
+    fn make_ready(&mut self, names: &NameSet) -> Result<(Vec<usize>, Vec<CellKey>), AllocError>
         requires { first_settled names.now (book_of self.old).settled (book_of self.old).journal ≡ None }
         ensures places { IfOk result (λ r. r.0.items ≡ places_from 0 names.now (book_of self.new).journal) }
         ensures behind { IfOk result (λ r. All (λ p. (book_of self.new).settled ≤ p) r.0.items) }

@@ -24,11 +24,7 @@ fn writer_place(journal: Journal, writer: Option<EventName>) -> Option<usize>
 }
 
 /// Collects the places of the entries that wrote a touched cell: of its last writer, of the last writer before that one, and so on.
-fn follow(
-    journal: Journal,
-    cell: &Touched,
-    places: &mut BTreeSet<usize>,
-) -> Result<(), AllocError>
+fn follow(journal: Journal, cell: &Touched, places: &mut BTreeSet<usize>) -> Result<(), AllocError>
     requires journal { IsJournal (items_of journal) }
     requires wrote { IsWriter (items_of journal) (last_of cell.now).0 (last_of cell.now).1 }
     ensures { OnOk result ((q : ℕ) → has_place places.new.keys q ≡ (has_place places.old.keys q || reached_at (items_of journal.entry) (last_of cell.now).0 (last_of cell.now).1 q)) }
@@ -59,11 +55,7 @@ fn names_at(
 }
 
 /// The names of all causes of the entry at a place behind the settled ones, in the journal's order. Fails only for want of memory.
-pub fn causes(
-    alloc: Global,
-    journal: Journal,
-    place: usize,
-) -> Result<Vec<EventName>, AllocError>
+pub fn causes(alloc: Global, journal: Journal, place: usize) -> Result<Vec<EventName>, AllocError>
     requires journal { IsJournal (items_of journal) }
     requires there { place < length journal.entries.now }
     ensures { IfOk result (λ names. (i : Item) → slice_get (map item_of journal.entry.entries.now) place ≡ Some i → numbers names.items ≡ causes_in (items_of journal.entry) i) }

@@ -1,12 +1,9 @@
-use Rattle.std.proofs.Common.{◌≡◌, ◌∙◌, ℕ, ◌≤◌, List, All, sym, ap, ap₂, subst}
-use Rattle.history.specs.Records.{State}
-use Rattle.world_cells.specs.Theory.{cells}
+use Rattle.std.proofs.Common.{◌∙◌, ℕ, ◌≤◌, List, All, sym, ap, ap₂, subst}
 use Rattle.journal.specs.Items.{Item}
 use Rattle.journal.specs.Lines.{lines_of}
 use Rattle.causality.specs.Journals.{IsJournal}
 use Rattle.causality.specs.Selections.{first_settled, places_from}
 use Rattle.undo.specs.CoreView.{items_of, settled_of}
-use Rattle.undo.specs.Written.{written_at}
 use Rattle.desk.specs.DeskView.{out_of}
 use Rattle.book.proofs.Choosing.{stands_journal, places_within}
 use Rattle.book.proofs.Entering.{stands_same}
