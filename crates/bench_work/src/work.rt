@@ -147,7 +147,7 @@ fn run_turn<L: Opening, P: Workplace<L>, G: Gate, R: Wait>(
     seat: Seat<L>,
     ticket: Ticket<Out>,
 ) -> Result<Busy<L>, Free<L>>
-    requires tickets { seat.deeds.tickets ≡ ticket.event ∷ [] }
+    requires tickets { seat.deeds.tickets ≡ ticket.carried.event ∷ [] }
     requires work { AreWork (events_of seat.deeds) }
 {
     let message = ticket.carried().name;
