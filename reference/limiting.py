@@ -1,4 +1,4 @@
-#!/usr/bin/env python3
+#!/usr/bin/env -S python3 -I -S
 """Becomes a program under limits of the system.
 
 usage: limiting.py [NAME=NUMBER..] -- PROGRAM [WORD..]

@@ -1,8 +1,8 @@
 """Has `./run` take the program that the gate proved and built.
 
-usage: python3 -m building.gate          prints the sum of the sources
-       python3 -m building.gate SUM      notes that the program which stands was made from the sources of this sum, if they
-                                         are still the same
+usage: companions/start.py building.gate        prints the sum of the sources
+       companions/start.py building.gate SUM    notes that the program which stands was made from the sources of this sum, if they
+                                                 are still the same
 """
 import sys
 

@@ -1,6 +1,6 @@
 """Tells once a minute, on standard error, what the `rt ci` is at whose output goes into a file.
 
-usage: python3 -m gate LOG      beside that `rt ci`, from the same shell; it ends with it
+usage: companions/start.py gate LOG      beside that `rt ci`, from the same shell; it ends with it
 """
 import os
 import re
@@ -40,7 +40,7 @@ def watch(log, shell, say, every=EVERY):
 
 def main(words):
     if len(words) != 1:
-        raise SystemExit("usage: python3 -m gate LOG")
+        raise SystemExit("usage: companions/start.py gate LOG")
     watch(Path(words[0]), os.getppid(), lambda line: print(line, file=sys.stderr, flush=True))
 
 

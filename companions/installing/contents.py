@@ -19,14 +19,14 @@ MANUAL = f"share/man/man1/{PROGRAM}.1"
 SECONDS = 10
 
 COMPANION = """\
-#!/usr/bin/env python3
+#!/usr/bin/env -S python3 -I -S
 # {what}
 import sys
 from pathlib import Path
 
 # All stays as it was installed, so that it can be taken away.
 sys.dont_write_bytecode = True
-sys.path[0] = str(Path(__file__).resolve().parents[1] / "{library}" / "companions")
+sys.path.insert(0, str(Path(__file__).resolve().parents[1] / "{library}" / "companions"))
 
 from {name}.__main__ import main
 

@@ -23,6 +23,8 @@ from sessions.running import run
 SECONDS = 120
 FOLDERS = [str(ROOT / name) for name in ("tests", "examples")]
 OPTIONS = {"--budget", "--workers"}
+HELP = (["-h"], ["--help"])
+TESTS = ("conversation.test_conversation", "talk.test_talk")
 
 
 def is_read_alike(text):
@@ -51,9 +53,12 @@ def tried(program, case):
 
 
 def main(words):
+    if words in HELP:
+        print(__doc__.strip())
+        return 0
     program = str(Path(named_or_built(words[0] if words else None)).resolve())
     terminal = subprocess.run(
-        [sys.executable, "-m", "unittest", "-q", "conversation.test_conversation", "talk.test_talk"], cwd=ROOT / "companions",
+        [sys.executable, "-I", ROOT / "companions" / "start.py", "unittest", "-q", *TESTS],
         env={**os.environ, "EVATS_PROGRAM": program}, check=False,
     )
     cases = [case for case in cases_of(FOLDERS) if is_for_talk(case)]

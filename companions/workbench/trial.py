@@ -29,7 +29,7 @@ FIRST = re.compile(r"\./run --unproved <<'END'\n(.*?)\ncone e8\n", re.DOTALL)
 
 def tried(program):
     """Whether the tests pass on a program."""
-    ended = subprocess.run([sys.executable, "-m", "unittest", "-q", *TESTS], cwd=ROOT / "companions", check=False,
+    ended = subprocess.run([sys.executable, "-I", ROOT / "companions" / "start.py", "unittest", "-q", *TESTS], check=False,
                            env={**os.environ, "EVATS_PROGRAM": program})
     return ended.returncode == 0 and not browser.why_not()
 
@@ -69,6 +69,9 @@ def take_both(visitor):
 
 
 def main(words):
+    if words in (["-h"], ["--help"]):
+        print(__doc__.strip())
+        return 0
     program = str(Path(named_or_built(words[0] if words and words != ["--photos"] else None)).resolve())
     if words == ["--photos"]:
         photograph(program)
