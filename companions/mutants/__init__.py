@@ -1,1 +1,1 @@
-"""Tries the mutants of crates: wrong bodies, in `crates/NAME/mutants/`, which the prover must refuse."""
+"""Tries the mutants of crates: wrong bodies, in `crates/NAME/mutants.edits`, which the prover must refuse."""

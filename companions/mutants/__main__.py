@@ -2,67 +2,108 @@
 
 Without words those of all crates; with NAME those of these; with --since those of the crates whose files, or a contract
 below them, changed since the revision REV. Those of different functions are tried in one check, over what checks of the
-tree have kept. Ends with 1 where one got through, could not be tried, or shows little.
+tree have kept, and crates side by side, as many as memory allows. What came of each is kept at once, by the checksums of
+all that it stands on: a run that was interrupted goes on when it is started again, and --anew tries all. Ends with 1 where
+one got through, could not be tried, or shows little.
 """
 import argparse
 import sys
+import tempfile
 from pathlib import Path
 
+from building.crates import ROOT, Fault, read_crates
+from building.machine import processors
 from building.processes import Interrupted, interruptions
+from building.progress import Display
+from building.proving import rt
 
-from .changes import NoSuchRevision, now, stands_on, to_be_tried
-from .report import report_of
-from .trial import mutants_of, tried
-
-ROOT = Path(__file__).resolve().parents[2]
-
-
-def say(text):
-    print(text, flush=True)
+from .changes import NoSuchRevision, to_be_tried
+from .edits import BadEdit, mutants_of
+from .results import Results, place_of_results, sum_of
+from .side_by_side import Crew
+from .telling import Report, fault_of
 
 
-def chosen(root, names, revision):
-    """The crates that have mutants and were asked for, in the order of `crates.txt`."""
-    every = stands_on(now(root, "crates.txt"))
-    strange = [name for name in names if name not in every]
+def chosen(root, crates, names, revision):
+    """The mutants that were asked for, by their crates, in the order of `crates.txt`."""
+    strange = [name for name in names if name not in crates]
     if strange:
-        raise SystemExit(f"mutants: there is no crate {strange[0]}")
-    asked = set(every)
-    if names:
-        asked &= set(names)
+        raise Fault(f"there is no crate {strange[0]}")
+    asked = set(names or crates)
     if revision:
         try:
             asked &= set(to_be_tried(root, revision))
         except NoSuchRevision:
-            raise SystemExit(f"mutants: {revision} is no revision here") from None
-    return [name for name in every if name in asked and mutants_of(root, name)]
+            raise Fault(f"{revision} is no revision here") from None
+    found = {name: mutants_of(root, name) for name in crates if name in asked}
+    return {name: mutants for name, mutants in found.items() if mutants}
 
 
-def told(report):
-    """Says what came of the mutants, and gives the status to end with."""
-    for file, fault in report.faults.items():
-        say(f"{file}: {fault}")
-    say(f"{report.refused} refused, {len(report.faults)} to be mended")
-    return 0 if report.is_good else 1
+def positive(word):
+    if not word.isdecimal() or int(word) < 1:
+        raise argparse.ArgumentTypeError(f"{word} is no number above 0")
+    return int(word)
+
+
+def parser():
+    how = {"formatter_class": argparse.RawDescriptionHelpFormatter, "allow_abbrev": False}
+    made = argparse.ArgumentParser(prog=".ci/mutants", description=__doc__, **how)
+    made.add_argument("--since", metavar="REV")
+    made.add_argument("--list", action="store_true", help="say which crates would be tried, and try nothing")
+    made.add_argument("--anew", action="store_true", help="try also what an earlier run tried")
+    jobs = "how many crates at most are tried side by side; without it as many as there are processors"
+    made.add_argument("--jobs", metavar="N", type=positive, default=processors(), help=jobs)
+    made.add_argument("names", metavar="NAME", nargs="*")
+    return made
+
+
+def try_all(root, crates, wanted, given, display):
+    """Tries the wanted mutants that no earlier run has tried, and reports on all."""
+    report, left = Report(sum(map(len, wanted.values()))), {}
+    results = {name: Results(place_of_results() / name, sum_of(root, crates, name)) for name in wanted}
+    for name, mutants in wanted.items():
+        earlier = [] if given.anew else results[name].earlier(mutants)
+        for told in earlier:
+            report.add_earlier(name, told)
+        left[name] = [mutant for mutant in mutants if mutant not in [it.mutant for it in earlier]]
+
+    def tell(name, told):
+        results[name].keep(told)
+        report.add(name, told)
+        if told.verdict.fault:
+            display.clear()
+            print(fault_of(name, told), file=display.out, flush=True)
+
+    with tempfile.TemporaryDirectory(prefix="evats-mutants-") as rooms:
+        crew = Crew(root, crates, Path(rooms), given.jobs, tell, rt())
+        try:
+            crew.try_all({name: mutants for name, mutants in left.items() if mutants}, lambda at_work: display.show(report.line(at_work)))
+        finally:
+            display.clear()
+    return report
+
+
+def tell_all(report):
+    """Tells what came of the mutants, and gives the status to end with."""
+    print(report.table(), *report.faults(), report.total(), sep="\n")
+    return 1 if report.faults() else 0
 
 
 def main(words):
-    parser = argparse.ArgumentParser(prog=".ci/mutants", description=__doc__, formatter_class=argparse.RawDescriptionHelpFormatter)
-    parser.add_argument("--since", metavar="REV")
-    parser.add_argument("--list", action="store_true", help="say which crates would be tried, and try nothing")
-    parser.add_argument("names", metavar="NAME", nargs="*")
-    given = parser.parse_args(words)
-    crates = chosen(ROOT, given.names, given.since)
-    wanted = [name for crate in crates for name in mutants_of(ROOT, crate)]
-    say(f"{len(wanted)} mutants of {len(crates)} crates: {' '.join(crates)}")
-    if given.list or not wanted:
-        return 0
+    given = parser().parse_args(words)
     try:
+        crates = read_crates(ROOT)
+        wanted = chosen(ROOT, crates, given.names, given.since)
+        print(f"{sum(map(len, wanted.values()))} mutants of {len(wanted)} crates: {' '.join(wanted)}", flush=True)
+        if given.list or not wanted:
+            return 0
         with interruptions():
-            verdicts = tried(ROOT, crates, say)
+            return tell_all(try_all(ROOT, crates, wanted, given, Display(sys.stderr)))
+    except (Fault, BadEdit, OSError) as fault:
+        print(f"mutants: {fault}", file=sys.stderr)
+        return 2
     except Interrupted as interrupted:
         return interrupted.status
-    return told(report_of(verdicts))
 
 
 if __name__ == "__main__":

@@ -5,8 +5,9 @@ from pathlib import Path
 from building.crates import crates_in
 
 from .contracts import contract_text
+from .edits import FILE
 
-OWN_PARTS = ("src", "specs", "proofs", "mutants")
+OWN_PARTS = ("src", "specs", "proofs", FILE)
 
 
 class NoSuchRevision(Exception):

@@ -1,27 +1,16 @@
-"""Wrong bodies, and in which functions of a crate they stand."""
+"""Wrong bodies: the file that tells the mutants of a crate, what each changes, and in which functions that stands."""
 import re
 from dataclasses import dataclass
 from pathlib import Path
 
-HEAD = re.compile(r"( *)(?:pub(?:\([a-z ]*\))? )?(?:(?:const|unsafe) )*fn (\w+)")
-LINE = re.compile(r"(file|old|new):(?: (.*))?$")
+from .functions import functions_in, modules_of_types
+
+FILE = "mutants.edits"
+LINE = re.compile(r"(mutant|file|old|new):(?: (.*))?$")
 
 
 class BadEdit(Exception):
-    """An edit that cannot be applied, and why."""
-
-
-@dataclass(frozen=True)
-class Function:
-    """A function, and the lines of a file on which it stands."""
-
-    name: str
-    file: str
-    first: int
-    last: int
-
-    def has(self, file, line):
-        return file == self.file and self.first <= line <= self.last
+    """An edit that cannot be read or applied, and why."""
 
 
 @dataclass(frozen=True)
@@ -34,47 +23,87 @@ class Change:
 
 
 @dataclass(frozen=True)
-class Edit:
-    """A wrong body: its name, what it changes, and the functions that it changes, or none where it changes something besides."""
+class Mutant:
+    """A wrong body, as the file of its crate tells it."""
 
     name: str
     changes: tuple
+
+
+@dataclass(frozen=True)
+class Edit:
+    """A mutant over the sources, with the functions that it changes, or none where it changes something besides."""
+
+    mutant: Mutant
     functions: tuple
 
     @property
-    def names(self):
-        return {function.name for function in self.functions}
+    def name(self):
+        return self.mutant.name
+
+    @property
+    def paths(self):
+        return {function.path for function in self.functions}
 
 
-def functions_in(file, source):
-    """The functions of a source, as `rt fmt` lays it out."""
-    found, open_at = [], None
-    for number, line in enumerate(source.splitlines(), 1):
-        head = HEAD.match(line)
-        if head and open_at is None:
-            open_at = (head[1], head[2], number)
-        if open_at and (line == f"{open_at[0]}}}" or line.endswith("{}") or (line.endswith(";") and head)):
-            found.append(Function(open_at[1], file, open_at[2], number))
-            open_at = None
-    return found
+class Reader:
+    """Reads the lines that tell mutants, each of which wants what stood before it."""
+
+    def __init__(self):
+        self.found, self.file, self.old = {}, None, None
+
+    def mutant(self, name):
+        if not name or name in self.found:
+            raise BadEdit(f"there are two mutants `{name}`" if name else "a mutant wants a name")
+        self.end()
+        self.found[name], self.file = [], None
+
+    def file_line(self, file):
+        if not self.found or self.old is not None:
+            raise BadEdit("`file:` stands behind `mutant:` or `new:`")
+        self.file = file
+
+    def old_line(self, text):
+        if self.file is None or self.old is not None or not text:
+            raise BadEdit("`old:` has a text, and stands behind `file:` or `new:`")
+        self.old = text
+
+    def new_line(self, text):
+        if self.old is None:
+            raise BadEdit("`new:` stands behind `old:`")
+        list(self.found.values())[-1].append(Change(self.file, self.old, text))
+        self.old = None
+
+    def end(self):
+        """Looks whether the last mutant is told to its end."""
+        if self.found and (self.old is not None or not list(self.found.values())[-1]):
+            raise BadEdit(f"the mutant `{list(self.found)[-1]}` does not end with `new:`")
 
 
-def changes_of(text):
-    """The changes that an edit's text tells."""
-    file, old, found = None, None, []
-    for line in text.splitlines():
+def mutants_in(text):
+    """The mutants that a text tells, in its order."""
+    reader = Reader()
+    take = {"mutant": reader.mutant, "file": reader.file_line, "old": reader.old_line, "new": reader.new_line}
+    for number, line in enumerate(text.splitlines(), 1):
         told = LINE.match(line)
-        if not told:
-            continue
-        word, rest = told[1], told[2] or ""
-        if word == "file":
-            file = rest.strip()
-        elif word == "old":
-            old = rest
-        elif old is not None:
-            found.append(Change(file, old, rest))
-            old = None
-    return tuple(found)
+        try:
+            if told:
+                take[told[1]](told[2] or "")
+            elif line:
+                raise BadEdit("a line is `mutant: NAME`, `file: PATH`, `old: TEXT` or `new: TEXT`")
+        except BadEdit as bad:
+            raise BadEdit(f"line {number}: {bad}") from None
+    reader.end()
+    return [Mutant(name, tuple(changes)) for name, changes in reader.found.items()]
+
+
+def mutants_of(root, crate):
+    """The mutants of a crate."""
+    file = Path(root, "crates", crate, FILE)
+    try:
+        return mutants_in(file.read_text(encoding="utf-8")) if file.is_file() else []
+    except BadEdit as bad:
+        raise BadEdit(f"crates/{crate}/{FILE}: {bad}") from None
 
 
 def changed(sources, changes):
@@ -88,29 +117,34 @@ def changed(sources, changes):
     return after
 
 
-def stands_in(source, change):
-    """The function in which the text of a change stands, if it is one that stands in a single function."""
+def functions_of(sources):
+    """The functions of a crate, by the files of its sources."""
+    code = {file: text for file, text in sources.items() if file.startswith("src/")}
+    types = modules_of_types(code)
+    return {file: functions_in(file, text, types) for file, text in code.items()}
+
+
+def stands_in(change, sources, functions):
+    """The function in which the text of a change stands, if there is one."""
+    source = sources[change.file]
     at = source.find(change.old)
-    first, last = (source[:end].count("\n") + 1 for end in (at, at + len(change.old)))
-    within = [it for it in functions_in(change.file, source) if at >= 0 and it.has(change.file, first) and it.has(change.file, last)]
-    return within[0] if within else None
+    line = source.count("\n", 0, at) + 1
+    return next((it for it in functions.get(change.file, ()) if at >= 0 and it.has(change.file, line)), None)
 
 
-def read(file, sources):
-    """The edit of a file, over these sources of its crate."""
-    changes = changes_of(Path(file).read_text())
-    if not changes:
+def edit_of(mutant, sources, functions):
+    """A mutant over these sources of its crate, which have these functions."""
+    if changed(sources, mutant.changes) == sources:
         raise BadEdit("it changes nothing")
-    changed(sources, changes)
-    functions = [stands_in(sources[it.file], it) for it in changes]
-    return Edit(Path(file).stem, changes, tuple(functions) if all(functions) else ())
+    found = [stands_in(it, sources, functions) for it in mutant.changes]
+    return Edit(mutant, tuple(found) if all(found) else ())
 
 
 def groups(edits):
-    """Puts edits together that change functions of other names, as many as may be; one that changes something besides stays alone."""
+    """Puts edits together that change different functions, as many as may be; one that changes something besides stays alone."""
     made = []
     for edit in edits:
-        room = [it for it in made if edit.functions and it[0].functions and not any(edit.names & other.names for other in it)]
+        room = [it for it in made if edit.functions and it[0].functions and not any(edit.paths & other.paths for other in it)]
         if room:
             room[0].append(edit)
         else:

@@ -1,13 +1,16 @@
 """What a check says of wrong bodies."""
 import re
-from dataclasses import dataclass, field
+from dataclasses import dataclass
 
 SAID = re.compile(r"(?:fn|impl|struct|enum|trait) (\S+): (.*)")
 AT = re.compile(r"(?:so far: )?(?:note: )?(?:\./)?(\S+?):(\d+):\d+: (.*)")
-SEVERAL = re.compile(r"several functions are named `(\w+)`: help: write one of (.*)")
+BROKEN = re.compile(r"error\[[\w-]+\]: (?:\./)?(\S+?):(\d+):\d+: ")
 PROVED = ("proved", "no holes")
 GOT_THROUGH = "got through"
 NOT_COMPILED = "cannot be applied or compiled"
+NOT_TRIED = "was not tried"
+# The statuses with which a check ends that has looked at what it was asked for.
+LOOKED = (0, 1, 3)
 # What is said of a refusal that says little of the contract, by what the check says first of it.
 FAULTS = (
     (r"has no field|is not in scope|has no `|was not admitted|record `", "shows little: a proof names what it took away"),
@@ -27,19 +30,21 @@ class Verdict:
     @property
     def is_open(self):
         """Whether a check of this one alone may say more."""
-        return self.leans_on_others or self.fault in (NOT_COMPILED, GOT_THROUGH)
+        return self.leans_on_others or self.fault in (NOT_COMPILED, GOT_THROUGH, NOT_TRIED)
 
 
-@dataclass
-class Report:
-    """How many wrong bodies were refused, and what is to be said of each of the others, by its file."""
+@dataclass(frozen=True)
+class Ran:
+    """How a command of `rt` ended: what it said, its status, and its processor seconds."""
 
-    refused: int = 0
-    faults: dict = field(default_factory=dict)
+    log: str
+    status: int
+    seconds: float = 0
 
     @property
-    def is_good(self):
-        return not self.faults
+    def last(self):
+        """What it said last."""
+        return (self.log.strip().splitlines() or [""])[-1][:200]
 
 
 def functions_said(log):
@@ -47,53 +52,48 @@ def functions_said(log):
     return {told[1]: told[2] for told in map(SAID.match, log.splitlines()) if told}
 
 
-def shared_name(log):
-    """The name of which a log says that several functions have it, with their paths, if it says so."""
-    told = SEVERAL.search(log)
-    return (told[1], re.findall(r"`([^`]+)`", told[2])) if told else None
+def is_of(said, crate, path):
+    """Whether a path in a log is that of a function of the crate, or of a closure in it."""
+    own = re.sub(r"\bfn::", "", said.removeprefix(f"{crate}::"))
+    return own == path or own.startswith((f"{path}::", f"{path}+"))
 
 
-def is_of(path, name):
-    """Whether a path is that of a function of this name, or of a closure in it."""
-    return name in re.split(r"::|\+", path)
-
-
-def complaints(edit, log):
-    """What a log complains of in the functions of an edit, and in their proofs."""
+def complaints(edit, log, is_alone):
+    """What a log complains of in the functions of an edit, and in their proofs; all that it complains of where the edit was alone."""
+    proofs = tuple(f"proofs/{path.replace('::', '/')}/" for path in edit.paths)
     found = []
     for line in log.splitlines():
         at = AT.match(line)
-        if not at:
-            continue
-        own = any(it.has(at[1], int(at[2])) for it in edit.functions)
-        proof = any(name in at[1].split("/") for name in edit.names) and at[1].startswith("proofs/")
-        if own or proof or not edit.functions:
+        own = at and any(it.has(at[1], int(at[2])) for it in edit.functions)
+        if at and (own or at[1].startswith(proofs) or is_alone):
             found.append(line.removeprefix("so far: ")[:200])
     return found
 
 
-def verdict_on(edit, log, status):
-    """What a check that ended so says of an edit that was in it."""
-    said = {path: what for path, what in functions_said(log).items() if any(is_of(path, name) for name in edit.names)}
-    is_refused = any(what not in PROVED for what in said.values()) if edit.functions else status == 1
-    if is_refused:
-        first = (complaints(edit, log) or [""])[0]
-        fault = next((fault for words, fault in FAULTS if re.search(words, first)), None)
-        leans = any("it calls `" in what or "of this cycle" in what for what in said.values())
-        return Verdict(fault, first, leans)
-    if said and status in (0, 1) or not edit.functions and status == 0:
+def error_in(edit, log):
+    """What a log tells of an error in what an edit changed, for which nothing was compiled; nothing where it tells none."""
+    for line in log.splitlines():
+        at = BROKEN.match(line)
+        if at and any(function.has(at[1], int(at[2])) for function in edit.functions):
+            return line[:200]
+    return ""
+
+
+def refusal(said, what):
+    """The verdict on an edit that is refused, where this is said of its functions, and first complained of."""
+    fault = next((fault for words, fault in FAULTS if re.search(words, said)), None)
+    return Verdict(fault, said, not said and any("it calls `" in it or "of this cycle" in it for it in what))
+
+
+def verdict_on(edit, crate, ran, is_alone):
+    """What a check that ended so says of an edit that was in it, of this crate, alone or with others."""
+    if ran.status not in LOOKED:
+        return Verdict(NOT_TRIED, f"the check ended with {ran.status}: {ran.last}")
+    said = functions_said(ran.log)
+    what = [what for path, what in said.items() if not edit.functions or any(is_of(path, crate, own) for own in edit.paths)]
+    if any(it not in PROVED for it in what):
+        return refusal((complaints(edit, ran.log, is_alone) or [""])[0], what)
+    if what:
         return Verdict(GOT_THROUGH, "it is still proved")
-    errors = [line for line in log.splitlines() if "error" in line]
-    return Verdict(NOT_COMPILED, (errors or log.strip().splitlines()[-1:] or [""])[0][:200])
-
-
-def report_of(verdicts):
-    """The report of the verdicts on mutants, by CRATE/NAME."""
-    report = Report()
-    for name, verdict in verdicts.items():
-        crate, mutant = name.split("/")
-        if verdict.fault is None:
-            report.refused += 1
-        else:
-            report.faults[f"crates/{crate}/mutants/{mutant}.edit"] = f"{verdict.fault}: {verdict.said}"
-    return report
+    errors = [line for line in ran.log.splitlines() if "error" in line]
+    return Verdict(NOT_COMPILED, (errors or [ran.last])[0][:200])
