@@ -140,6 +140,21 @@ def edit_of(mutant, sources, functions):
     return Edit(mutant, tuple(found) if all(found) else ())
 
 
+def changed_together(sources, edits):
+    """The sources after edits of different functions, each of which stands there as it would alone: a text that one of them makes
+    may be the one that another one looks for. No edit moves a line."""
+    if not all(edit.functions for edit in edits):
+        (edit,) = edits
+        return changed(sources, edit.mutant.changes)
+    after = {function.file: sources[function.file].split("\n") for edit in edits for function in edit.functions}
+    for edit in edits:
+        alone = changed(sources, edit.mutant.changes)
+        for it in edit.functions:
+            lines = slice(it.first - 1, it.last)
+            after[it.file][lines] = alone[it.file].split("\n")[lines]
+    return sources | {file: "\n".join(lines) for file, lines in after.items()}
+
+
 def groups(edits):
     """Puts edits together that change different functions, as many as may be; one that changes something besides stays alone."""
     made = []

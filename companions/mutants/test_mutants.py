@@ -16,7 +16,7 @@ from . import side_by_side
 from .__main__ import chosen, parser, tell_all, try_all
 from .changes import NoSuchRevision, stands_on, to_be_tried
 from .contracts import contract_text
-from .edits import BadEdit, Change, Edit, Mutant, changed, edit_of, functions_of, groups, mutants_in
+from .edits import BadEdit, Change, Edit, Mutant, changed, changed_together, edit_of, functions_of, groups, mutants_in
 from .functions import Function
 from .report import GOT_THROUGH, NOT_COMPILED, NOT_TRIED, Ran, Verdict, verdict_on
 from .results import Results, sum_of
@@ -257,6 +257,13 @@ class Edits(unittest.TestCase):
     def test_a_later_change_applies_to_what_an_earlier_one_made(self):
         changes = (Change("src/lib.rt", "x + y", "y + z"), Change("src/lib.rt", "y + z", "y"))
         self.assertIn("    y\n", changed(self.SOURCES, changes)["src/lib.rt"])
+
+    def test_a_text_that_another_edit_makes_is_not_meant(self):
+        text = "fn one() {\n    a\n}\n\nfn two() {\n    b\n}\n"
+        sources, after = {"src/lib.rt": text}, "fn one() {\n    b\n}\n\nfn two() {\n    c\n}\n"
+        made = mutants_in("mutant: x\nfile: src/lib.rt\nold: a\nnew: b\n\nmutant: y\nfile: src/lib.rt\nold: b\nnew: c\n")
+        edits = [edit_of(mutant, sources, functions_of(sources)) for mutant in made]
+        self.assertEqual(changed_together(sources, edits), {"src/lib.rt": after})
 
     def test_edits_of_different_functions_go_together(self):
         made = groups([self.edit(name) for name in ("less", "one", "broken", "of a type")])

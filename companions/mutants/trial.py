@@ -8,7 +8,7 @@ from pathlib import Path
 from building.crates import PROGRAM
 from building.rooms import Room
 
-from .edits import BadEdit, changed, edit_of, functions_of, groups
+from .edits import BadEdit, changed_together, edit_of, functions_of, groups
 from .report import NOT_COMPILED, NOT_TRIED, Verdict, error_in, verdict_on
 
 ONE_JOB = ("--jobs", "1")
@@ -102,10 +102,7 @@ class Trial:
 
     def check(self, edits):
         """A check of these edits together: of their functions alone, or of all where one changes something besides."""
-        after = self.sources
-        for edit in edits:
-            after = changed(after, edit.mutant.changes)
-        self.write(after)
+        self.write(changed_together(self.sources, edits))
         paths = sorted(set().union(*(edit.paths for edit in edits)))
         return (yield ("check", *ONE_JOB, *(word for path in paths for word in ("--only", path))))
 
