@@ -1,4 +1,5 @@
 """Which crates have mutants to be tried since a revision: those that changed, and those above a changed contract."""
+import re
 import subprocess
 from pathlib import Path
 
@@ -7,7 +8,7 @@ from building.crates import crates_in
 from .contracts import contract_text
 from .edits import FILE
 
-OWN_PARTS = ("src", "specs", "proofs", FILE)
+OWN_FILE = re.compile(rf"crates/(\w+)/(?:(src|specs|proofs)/|{re.escape(FILE)}$)")
 
 
 class NoSuchRevision(Exception):
@@ -46,7 +47,7 @@ def now(root, path):
 
 def turns_contract(root, revision, path):
     """A change of this file that crates above can see: of a definition, of an item, or of a contract."""
-    part = path.split("/")[2]
+    part = OWN_FILE.match(path)[2]
     if part == "specs":
         return True
     return part == "src" and contract_text(now(root, path)) != contract_text(earlier(root, revision, path))
@@ -55,9 +56,9 @@ def turns_contract(root, revision, path):
 def to_be_tried(root, revision):
     """The crates whose own files changed since a revision, or a contract below them, in the order of `crates.txt`."""
     below, before = stands_on(now(root, "crates.txt")), stands_on(earlier(root, revision, "crates.txt"))
-    own = [path for path in changed_files(root, revision) if path.startswith("crates/") and path.split("/")[2] in OWN_PARTS]
-    changed = {path.split("/")[1] for path in own} | {name for name in below if below[name] != before.get(name)}
-    seen = {path.split("/")[1] for path in own if turns_contract(root, revision, path)}
+    own = {path: file[1] for path in changed_files(root, revision) if (file := OWN_FILE.match(path))}
+    changed = set(own.values()) | {name for name in below if below[name] != before.get(name)}
+    seen = {name for path, name in own.items() if turns_contract(root, revision, path)}
 
     def reaches_seen(name):
         return any(it in seen or reaches_seen(it) for it in below[name])

@@ -173,6 +173,11 @@ class Since(unittest.TestCase):
         self.there.write("crates.txt", "low:\nhigh: low\nother: low\n")
         self.assertEqual(self.chosen(), ["other"])
 
+    def test_what_is_told_of_crates_is_part_of_none(self):
+        self.there.write("crates/README.md", "# The crates\n")
+        self.there.write("crates/low/README.md", "# `low`\n")
+        self.assertEqual(self.chosen(), [])
+
     def test_a_file_that_is_gone(self):
         (self.there.root / "crates/low/src/lib.rt").unlink()
         self.assertEqual(self.chosen(), ["low", "high"])
