@@ -40,9 +40,10 @@ class Place:
 
     def after(self, path):
         """Where the next path of the item is looked for."""
-        inside = path.relative_to(self.root).parts
-        crate = self.root / "crates" / inside[1] if inside[0] == "crates" and len(inside) > 1 else self.crate
-        return replace(self, crate=crate, folder=path if path.is_dir() else path.parent)
+        top, *inside = path.relative_to(self.root).parts
+        crate = self.root / top / inside[0] if top == "crates" and inside else None
+        folder = path if path.is_dir() else path.parent
+        return replace(self, crate=crate if crate and crate.is_dir() else self.crate, folder=folder)
 
 
 def items_of(text):
