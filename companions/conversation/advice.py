@@ -3,7 +3,7 @@ import difflib
 
 from .commands import ASK, words_of
 from .journal import between, cone, with_causes
-from .language import read_document, told_of
+from .language import read_documents, told_of
 from .replies import refusal_in
 from .telling import answer_in_words
 from .texts import is_open
@@ -61,7 +61,7 @@ def unknown_command(session, command, refusal):
 
 def bad_words(session, command, refusal):
     usage = session.usages.get(command.word)
-    wants = told_of(read_document(), command.word)[0]
+    wants = told_of(read_documents(), command.word)[0]
     told = [f"It is `{usage.words}`{': ' if wants else ''}{'; '.join(wants)}."] if usage else []
     return told + ([BRACKETS] if usage and command.word == "vat" else [])
 

@@ -1,7 +1,7 @@
-"""What is told of one command or refusal, by the program's help and docs/LANGUAGE.md."""
+"""What is told of one command or refusal, by the program's help, docs/COMMANDS.md and docs/REFUSALS.md."""
 import re
 
-from .language import meanings, read_document, told_of
+from .language import meanings, read_documents, told_of
 from .refusals import SENTENCES
 
 OF_ONE_COMMAND = re.compile(r", for `([a-z-]+)` [^;]*")
@@ -22,7 +22,7 @@ def told_for(word, when):
 
 def one_command(usage, ways=()):
     """The lines on a command, with ways in which it may be typed besides."""
-    wants, replies, refused = told_of(read_document(), usage.word)
+    wants, replies, refused = told_of(read_documents(), usage.word)
     lines = [row(usage).strip(), *(way for way in ways if way.split()[0] == usage.word)]
     lines += [f"  wants: {in_one_line(each)}" for each in wants]
     lines += [f"  reply: {in_one_line(each)}" for each in replies]
@@ -31,7 +31,7 @@ def one_command(usage, ways=()):
 
 def one_refusal(code):
     """The lines on a refusal."""
-    found = [each for each in meanings(read_document()) if each.code == code]
+    found = [each for each in meanings(read_documents()) if each.code == code]
     names = [*(found[0].arguments if found else ()), "..", ".."]
     lines = [f"  no {' '.join([code, each.name, *each.arguments])}: {in_one_line(each.when)}" for each in found]
     return [SENTENCES[code].format(*names), *lines]

@@ -1,9 +1,11 @@
-"""What docs/LANGUAGE.md says of commands and refusals, in its tables."""
+"""What docs/COMMANDS.md and docs/REFUSALS.md say of commands and refusals, in their tables."""
+import contextlib
 import re
 from dataclasses import dataclass
 from pathlib import Path
 
-DOCUMENT = Path(__file__).resolve().parents[2] / "docs" / "LANGUAGE.md"
+FOLDER = Path(__file__).resolve().parents[2] / "docs"
+DOCUMENTS = [FOLDER / name for name in ("COMMANDS.md", "REFUSALS.md")]
 CODE = re.compile(r"`no ([A-Z]\d+) (\w+)([^`]*)`")
 WANTS, REPLY, REFUSED = ["Line", "Wants, else `S2`"], ["Command", "Reply"], ["Reply", "Of", "When"]
 HEADS = (WANTS, REPLY, REFUSED, ["Reply", "When"])
@@ -37,11 +39,13 @@ def rows(text):
     return found
 
 
-def read_document():
-    try:
-        return DOCUMENT.read_text(encoding="utf-8")
-    except OSError:
-        return ""
+def read_documents():
+    """The text of both documents; nothing of one that cannot be read."""
+    found = []
+    for path in DOCUMENTS:
+        with contextlib.suppress(OSError):
+            found.append(path.read_text(encoding="utf-8"))
+    return "\n".join(found)
 
 
 def meanings(text):
@@ -65,7 +69,7 @@ def alone(cell):
 
 
 def told_of(text, word):
-    """What the document says of a command: which words it wants, what it replies, and with which codes it is refused."""
+    """What the documents say of a command: which words it wants, what it replies, and with which codes it is refused."""
     wants = [alone(row[1]) for head, row in rows(text) if head == WANTS and is_of(row[0], word)]
     replies = [row[1] for head, row in rows(text) if head == REPLY and is_of(row[0], word)]
     refused = [meaning for meaning in meanings(text) if is_of(meaning.of, word)]

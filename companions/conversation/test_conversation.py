@@ -15,7 +15,7 @@ from .completion import completions
 from .helping import help_on
 from .history import keep, kept_lines
 from .journal import JournalFault, between, cone, origins, read_journal, undone_cone, with_causes
-from .language import meanings, read_document, told_of
+from .language import meanings, read_documents, told_of
 from .program import Ended, Program, Stopped, help_of
 from .questions import answer_to, cell_of, cells_in, way_by_causes, why_in
 from .refusals import SENTENCES, in_words
@@ -375,7 +375,7 @@ class Sessions(unittest.TestCase):
 
 class Words(unittest.TestCase):
     def test_each_refusal_has_a_sentence(self):
-        found = meanings(read_document())
+        found = meanings(read_documents())
         self.assertGreater(len(found), 35)
         codes = {meaning.code for meaning in found}
         self.assertEqual(codes - set(SENTENCES), set())
@@ -402,9 +402,9 @@ class Words(unittest.TestCase):
 
     def test_each_command_of_the_help_is_in_the_document(self):
         for word in usages_in(help_of(PROGRAM)):
-            self.assertTrue(told_of(read_document(), word)[0], word)
-        wants, replies, refused = told_of(read_document(), "undo")
-        self.assertEqual(told_of(read_document(), "log")[0], ["just these words"])
+            self.assertTrue(told_of(read_documents(), word)[0], word)
+        wants, replies, refused = told_of(read_documents(), "undo")
+        self.assertEqual(told_of(read_documents(), "log")[0], ["just these words"])
         self.assertEqual((len(wants), len(replies), [each.code for each in refused]), (1, 1, ["B12", "B13", "B15", "B22"]))
 
     def test_help_leaves_out_what_is_so_for_another_command(self):

@@ -1,7 +1,7 @@
 """Installs the program below PREFIX, with its manual page, the companions, and what bash and editors know of the language.
 
   PREFIX/bin          evats; evats-talk, evats-causes and evats-workbench, which are ./talk, ./causes and ./workbench
-  PREFIX/lib/evats    what these need, docs/LANGUAGE.md among it, and the list of all that was put
+  PREFIX/lib/evats    what these need, the documents of the language among it, and the list of all that was put
   PREFIX/share        the manual page, the completion for bash, the mode for vim, the TextMate grammar
 
 The program is the one that ./run proved and built of the sources as they are. Where there is none, nothing is installed.

@@ -7,7 +7,7 @@ from pathlib import Path
 from building.crates import PROGRAM, Fault
 from building.programs import NOTHING_PROVED
 
-from .manual import manual
+from .manual import DOCUMENTS, manual
 
 COMPANIONS = ("talk", "causes", "workbench")
 # The folder that stands for the repository, where the companions look for what they read.
@@ -87,7 +87,7 @@ def first_sentence(root, name):
 def companion_files(root):
     """The commands of the companions, and what these read."""
     page = sorted((root / "companions" / "workbench" / "page").iterdir())
-    read = [*modules(root / "companions"), *page, root / "docs" / "LANGUAGE.md"]
+    read = [*modules(root / "companions"), *page, *(root / "docs" / name for name in DOCUMENTS)]
     found = {f"{LIBRARY}/{path.relative_to(root)}": File(path.read_bytes()) for path in read}
     for name in COMPANIONS:
         found[f"bin/{PROGRAM}-{name}"] = script(COMPANION, name=name, what=f"{first_sentence(root, name)}.")

@@ -19,6 +19,12 @@ COMPANIONS = """\
 {0}-talk is the program at a terminal, with line editing; {0}-workbench shows it in a browser; {0}-causes draws what happened.
 Each tells its options with --help. Of these nothing is proved.
 """
+# The documents that are installed, with what each tells.
+DOCUMENTS = {
+    "LANGUAGE.md": "the language",
+    "COMMANDS.md": "all commands with their replies",
+    "REFUSALS.md": "all refusals",
+}
 # A row of a list: what it is about, and what is told of it; a further line of that.
 ROW, MORE = re.compile(r" {2,6}(\S+(?: \S+)*)(?: {2,}(\S.*))?"), re.compile(r" {7,}(\S.*)")
 # Signs that a text shows otherwise, or not at all, as they are written.
@@ -61,6 +67,11 @@ def shown(lines):
     return [".PP", ".nf", *(literal(line) for line in lines), ".fi"]
 
 
+def files(folder):
+    """The documents in a folder, as a list."""
+    return [part for name, told in DOCUMENTS.items() for part in (".TP", rf"\fI{literal(f'{folder}/{name}')}\fR", told)]
+
+
 def parts_of(told):
     """What a help has: what the program is, how it is used, and its other parts, each with a head."""
     about, usage, *parts = (part.split("\n") for part in told.strip().split("\n\n"))
@@ -71,7 +82,6 @@ def manual(told, version, build, prefix):
     """The page of a program that tells this help and is to stand below this folder."""
     about, usage, parts = parts_of(told)
     standing = PROVED if build.is_proved else NOT_PROVED
-    language = f"{prefix}/lib/{PROGRAM}/docs/LANGUAGE.md"
     return "\n".join([
         f'.TH {PROGRAM.upper()} 1 "" "{literal(version)}"',
         *section("Name", literal(PROGRAM) + r" \- " + literal(about[:1].lower() + about[1:])),
@@ -79,7 +89,7 @@ def manual(told, version, build, prefix):
         *section("Description", *paragraph(DESCRIPTION)),
         *(line for head, lines in parts for line in section(head, *shown(lines))),
         *section("What is proved", *paragraph(standing)),
-        *section("Files", ".TP", rf"\fI{literal(language)}\fR", "the language, all commands with their replies, and all refusals"),
+        *section("Files", *files(f"{prefix}/lib/{PROGRAM}/docs")),
         *section("See also", *paragraph(COMPANIONS.format(PROGRAM))),
         "",
     ])

@@ -24,7 +24,7 @@ from building.sums import sum_of_file
 from . import __main__ as installing
 from . import contents
 from .contents import COMPANIONS, File, modules
-from .manual import manual, rows_in
+from .manual import DOCUMENTS, manual, rows_in
 from .prefix import Prefix, put, take_away
 
 STAND_IN = Path(conversation.__file__).with_name("stand_in")
@@ -157,7 +157,7 @@ class Installing(Case):
         ran = self.run_here(bin / "evats-talk", given="vat a ()\n1 + 2\n\nturn e1.m0\nsave kept\nhelp show\n")
         self.assertEqual((ran.stdout, ran.returncode), (REPLIES, 0))
         self.assertTrue(ran.stderr.startswith(told), ran.stderr)
-        # What `help` tells of a command stands in docs/LANGUAGE.md.
+        # What `help` tells of a command stands in docs/COMMANDS.md.
         self.assertIn("`evats kept` does them again", ran.stderr)
         self.assertIn("# show                      the world\n#   wants: no other word", ran.stderr)
         ran = self.run_here(bin / "evats-causes", given=COMMANDS)
@@ -306,8 +306,11 @@ class Places(Case):
         self.assertEqual(status, 0)
         self.assertIn(f"{self.folder}/packed/usr/local", printed)
         there = self.folder / "packed" / "usr" / "local"
-        self.assertIn("/usr/local/lib/evats/docs/LANGUAGE.md", (there / "share" / "man" / "man1" / "evats.1").read_text())
-        self.assertNotIn("packed", (there / "share" / "man" / "man1" / "evats.1").read_text())
+        manual = (there / "share" / "man" / "man1" / "evats.1").read_text()
+        for name in DOCUMENTS:
+            self.assertIn(f"/usr/local/lib/evats/docs/{name}", manual)
+            self.assertTrue((there / "lib" / "evats" / "docs" / name).is_file(), name)
+        self.assertNotIn("packed", manual)
         there.rename(self.folder / "moved")
         self.assertEqual(self.run_here(self.folder / "moved" / "bin" / "evats-talk", given=COMMANDS).stdout, REPLIES)
 

@@ -1,8 +1,8 @@
 """Runs sessions and tables of texts on the built program, and compares what it replies.
 
 A name is a file, a folder, or the name of a session or of a table without its ending; without one all tests are run, the
-examples, and what README.md and docs/LANGUAGE.md show. Each session is run twice: with its commands at once, and with one
-byte of them at a time. The last line is `N passed, M failed`. tests/README.md says what the files mean.
+examples, and what README.md, docs/LANGUAGE.md and docs/COMMANDS.md show. Each session is run twice: with its commands at
+once, and with one byte of them at a time. The last line is `N passed, M failed`. tests/README.md says what the files mean.
 """
 import argparse
 import os

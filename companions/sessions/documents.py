@@ -1,4 +1,4 @@
-"""The sessions and the tables of examples that README.md and docs/LANGUAGE.md show."""
+"""The sessions and the tables of examples that the documents show."""
 import re
 
 from .cases import Broken, case_of

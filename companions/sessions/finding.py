@@ -5,7 +5,8 @@ from . import documents, tables
 from .cases import Broken, Session
 
 ROOT = Path(__file__).resolve().parents[2]
-USUAL = tuple(str(ROOT / name) for name in ("tests", "examples", "README.md", "docs/LANGUAGE.md"))
+DOCUMENTS = ("README.md", "docs/LANGUAGE.md", "docs/COMMANDS.md")
+USUAL = tuple(str(ROOT / name) for name in ("tests", "examples", *DOCUMENTS))
 SESSION, TABLE, DOCUMENT = ".evats", ".table", ".md"
 BESIDE = (".replies", ".args", ".status", ".errors")
 

@@ -9,7 +9,7 @@ from . import documents, tables
 from .__main__ import main
 from .cases import Broken, Case, case_of, status_of
 from .differences import command_of, differences
-from .finding import ROOT, cases_of
+from .finding import DOCUMENTS, ROOT, cases_of
 from .running import Ran, run
 
 # A session whose replies are its commands: `cat` answers it rightly.
@@ -272,7 +272,7 @@ class Documents(unittest.TestCase):
         self.assertEqual([row.replies for row in documents.rows_of("D", lines)], [b"", b"no S1 X\n"])
 
     def test_what_the_documents_show(self):
-        shown = {name: documents.cases_in(ROOT / name, name) for name in ("README.md", "docs/LANGUAGE.md")}
+        shown = {name: documents.cases_in(ROOT / name, name) for name in DOCUMENTS}
         self.assertGreater(len(shown["README.md"]), 2)
         self.assertGreater(len(shown["docs/LANGUAGE.md"]), 70)
         self.assertFalse([case for cases in shown.values() for case in cases if isinstance(case, Broken)])
