@@ -1,5 +1,6 @@
 """Commands: how the bytes of an input are cut into lines and words, which command a line spells, and what it is answered."""
 import re
+from itertools import islice
 
 import asking
 from reading import RESERVED, Refusal, read
@@ -110,16 +111,20 @@ def script_lines(line):
 
 
 class Engine:
-    """Answers the lines of an input, whole."""
+    """Answers the lines of an input."""
 
-    def __init__(self, book, has_references=True):
-        self.book, self.has_references, self.is_refused = book, has_references, False
+    def __init__(self, book):
+        self.book, self.is_refused, self.waiting = book, False, iter(())
 
     def answers(self, data):
-        """The lines that are answered."""
-        self.waiting = lines_of(data)
-        while self.waiting:
-            yield from self.answer(self.waiting.pop(0))
+        """The lines that are answered to an input that is there whole."""
+        return self.answer_lines(lines_of(data))
+
+    def answer_lines(self, lines):
+        """The lines that are answered. A line of the input is taken where all before it is answered."""
+        self.waiting = iter(lines)
+        for line in self.waiting:
+            yield from self.answer(line)
 
     def answer(self, line):
         try:
@@ -205,7 +210,7 @@ class Engine:
             raise BadWord
         name, earlier = vat_name(words[1]), earlier_vats(words[2:-1])
         count = number(words[-1], MOST_LINES)
-        lines, self.waiting = self.waiting[:count], self.waiting[count:]
+        lines = [*islice(self.waiting, count)]
         if len(lines) < count:
             raise Refusal("S4 Truncated")
         script = "\n".join([text_of(line) for line in lines])
@@ -222,7 +227,7 @@ class Engine:
         return f"ok e{entry.event} {queued}"
 
     def read(self, text):
-        return read(text.encode(), self.has_references)
+        return read(text.encode())
 
     def act(self, word, *names):
         """Does what is enabled, or what a command names."""

@@ -262,13 +262,11 @@ def tokens(text):
 
 
 class Reader:
-    """Reads by recursive descent, with one token of look-ahead. A pattern is a name, or None for `_`. Without references no
-    sends, whens and `Ref` forms are read."""
+    """Reads by recursive descent, with one token of look-ahead. A pattern is a name, or None for `_`."""
 
-    def __init__(self, text, has_references):
+    def __init__(self, text):
         self.tokens = [*tokens(text), Token("END", len(text))]
         self.at = 0
-        self.has_references = has_references
 
     @property
     def kind(self):
@@ -407,7 +405,7 @@ class Reader:
                 made = Call(made, "run", self.parts(")", self.operation))
             elif self.skip("["):
                 made = Call(made, "get", self.parts("]", self.operation))
-            elif self.has_references and self.skip("<-"):
+            elif self.skip("<-"):
                 verb = "run" if self.kind == "(" else self.name()
                 self.take("(")
                 made = Send(made, verb, self.parts(")", self.operation))
@@ -438,8 +436,7 @@ class Reader:
             return self.choice()
         if self.kind == "{":
             return Hide(self.block())
-        with_references = ("when", "Ref") if self.has_references else ()
-        begin = self.take("null", "[", "(", "while", "for", "escape", "try", "throw", "def", *with_references).kind
+        begin = self.take("null", "[", "(", "while", "for", "escape", "try", "throw", "def", "when", "Ref").kind
         if begin == "null":
             return Null()
         if begin == "[":
@@ -495,6 +492,6 @@ class Reader:
         return Object(pattern, tuple(methods))
 
 
-def read(text, has_references=True):
+def read(text):
     """The items of the program that a text, as bytes, spells."""
-    return Reader(text, has_references).items("END")
+    return Reader(text).items("END")

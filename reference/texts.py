@@ -9,6 +9,8 @@ from running import bytes_of, text_of
 
 TOP = Path(__file__).resolve().parents[1]
 COMPANION = TOP / "companions" / "sessions"
+# What the companion takes from others. Behind this folder, which has a module of the name of one of them.
+sys.path.append(str(COMPANION.parent))
 
 
 def companion(part):
