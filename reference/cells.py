@@ -12,6 +12,21 @@
 from dataclasses import dataclass, field
 
 
+class World(dict):
+    """Cells with their contents. Those that are named alike up to their own names also stand together, since all of them are
+    looked through again and again."""
+
+    def __init__(self):
+        super().__init__()
+        self.alike = {}
+
+    def enter(self, written):
+        """Enters what an event wrote."""
+        self.update(written)
+        for cell, content in written.items():
+            self.alike.setdefault(cell[:-1], {})[cell[-1]] = content
+
+
 @dataclass
 class Cells:
     """The world that an event finds, the cells that it touches, and what it writes. It touches what it finds absent too,
@@ -44,5 +59,4 @@ class Home:
 
 def listed(world, *beginning):
     """The cells that are named so up to their own names, as pairs of this name and the content, in the order of names."""
-    found = [(cell[-1], content) for cell, content in world.items() if cell[:-1] == beginning]
-    return sorted(found, key=lambda it: it[0])
+    return sorted(world.alike.get(beginning, {}).items(), key=lambda it: it[0])

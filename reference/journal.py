@@ -1,6 +1,7 @@
 """The journal: entries with their causes, the world that the live ones lead to, undo, redo, exchange and settling."""
 from dataclasses import dataclass, field
 
+from cells import World
 from reading import Refusal
 
 
@@ -18,9 +19,13 @@ class Entry:
     causes: set = field(default_factory=set)
     is_live: bool = True
 
+    def __post_init__(self):
+        # Two sets are compared by the hashes that both keep.
+        self.writes = frozenset(self.written)
+
     def wrote_for(self, other):
         """Whether it wrote a cell that the other touches."""
-        return not other.touched.isdisjoint(self.written)
+        return not other.touched.isdisjoint(self.writes)
 
 
 class Journal:
@@ -29,12 +34,12 @@ class Journal:
     def __init__(self):
         self.entries = []
         self.settled = 0
-        self.world = {}
+        self.world = World()
 
     def enter(self, entry):
         entry.causes = {it.event for it in self.entries if it.is_live and it.wrote_for(entry)}
         self.entries.append(entry)
-        self.world.update(entry.written)
+        self.world.enter(entry.written)
 
     def among(self, events):
         """The entries with these names, in the journal's order."""
@@ -93,7 +98,10 @@ class Journal:
         """Marks the entries. The world is what the live entries wrote, one after another."""
         for entry in chosen:
             entry.is_live = is_live
-        self.world = {cell: content for it in self.entries if it.is_live for cell, content in it.written.items()}
+        self.world = World()
+        for entry in self.entries:
+            if entry.is_live:
+                self.world.enter(entry.written)
         return len(chosen)
 
     def expect_place(self, position):
