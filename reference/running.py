@@ -1,7 +1,7 @@
 """Programs that are run on commands: what they say in time, how they end, and what is otherwise than it should be."""
 import contextlib
 import itertools
-import multiprocessing
+import multiprocessing.connection
 import os
 import re
 import select
@@ -17,12 +17,16 @@ from functools import partial
 from subprocess import PIPE
 from typing import NamedTuple
 
+from deepening import deep
+
 # How long a program may take for a reply, and for its end, and how many bytes it may say there. One that goes on is stopped.
 SECONDS, MOST = 60, 1 << 24
 # How long a session that differs is made shorter.
-SHORTENING = 300
+SHORTENING = 120
 # For how many items work is under way at once.
 AHEAD = 4
+# How often it is told what is under way.
+MINUTE = 60
 
 
 def bytes_of(given):
@@ -62,8 +66,12 @@ class Ended(NamedTuple):
     err: str
 
     @property
+    def is_stopped(self):
+        return self.status is None
+
+    @property
     def ending(self):
-        if self.status is None:
+        if self.is_stopped:
             return f"it was stopped after {SECONDS} seconds or {MOST} bytes"
         if self.status < 0:
             return f"signal {-self.status} ended it: {signal.strsignal(-self.status)}"
@@ -84,10 +92,11 @@ class Ended(NamedTuple):
 
 
 def stop(process):
-    """Ends a program with all that it started."""
+    """Ends a program with all that it started, by a signal that no program ignores."""
     with contextlib.suppress(ProcessLookupError):
         os.killpg(process.pid, signal.SIGKILL)
-    process.wait()
+    with contextlib.suppress(subprocess.TimeoutExpired):
+        process.wait(SECONDS)
 
 
 class Conversation:
@@ -97,6 +106,8 @@ class Conversation:
         self.said, self.is_stopped, self.errors = "", False, tempfile.TemporaryFile()
         streams = {"stdin": stdin, "stdout": stdout, "stderr": self.errors}
         self.process = subprocess.Popen(words, bufsize=0, start_new_session=True, env=environment, **streams)
+        if self.process.stdin:
+            os.set_blocking(self.process.stdin.fileno(), False)
 
     def __enter__(self):
         return self
@@ -108,8 +119,14 @@ class Conversation:
             stream.close()
 
     def give(self, command):
+        """Gives a command, as long as the program takes some of it in time."""
+        data, pipe = bytes_of(command), self.process.stdin
         with contextlib.suppress(BrokenPipeError):
-            self.process.stdin.write(bytes_of(command))
+            while data:
+                if not select.select([], [pipe], [], SECONDS)[1]:
+                    self.stop()
+                    break
+                data = data[os.write(pipe.fileno(), data):]
 
     def hear(self, is_whole):
         """What is said until that is whole, or nothing more comes."""
@@ -194,20 +211,6 @@ def smallest(commands, differs):
     return commands
 
 
-def deep(work):
-    """What a piece of work answers, on a stack on which the interpreter reaches level 1,000 of a program: that is many levels
-    of this one."""
-    found = []
-    sys.setrecursionlimit(100_000)
-    threading.stack_size(1 << 30)
-    thread = threading.Thread(target=lambda: found.append(work()))
-    thread.start()
-    # No other thread needs such a stack.
-    threading.stack_size(0)
-    thread.join()
-    return found[0]
-
-
 def ahead(items, work):
     """Each item, in order, with what the work on it answers, which is under way for some while the next item is made. A program
     may have to wait for long where others are at work."""
@@ -221,15 +224,56 @@ def ahead(items, work):
         yield from ((item, answer.result()) for item, answer in waiting)
 
 
-def side_by_side(count, work):
-    """What so many processes answer, each of which does the work under a number of its own; one alone is this one."""
+def say(text):
+    """Tells what is under way."""
+    print(text, file=sys.stderr, flush=True)
+
+
+class Jobs:
+    """Processes that do the work under a number of their own each, and what they answer."""
+
+    def __init__(self, count, work):
+        sys.stdout.flush()
+        fork, self.count, self.processes, self.answers = multiprocessing.get_context("fork"), count, {}, {}
+        for number in range(count):
+            pipe, its = fork.Pipe(duplex=False)
+            process = fork.Process(target=lambda: its.send(deep(partial(work, number))))
+            process.start()
+            its.close()
+            self.processes[pipe] = number, process
+
+    def hear(self, seconds):
+        """Hears those that answer first. One that ends without an answer is told."""
+        for pipe in multiprocessing.connection.wait(self.processes, seconds):
+            number, process = self.processes.pop(pipe)
+            try:
+                self.answers[number] = pipe.recv()
+            except EOFError:
+                process.join(SECONDS)
+                say(f"process {number + 1} of {self.count} ended without an answer, with {process.exitcode}")
+
+    def hear_all(self, end):
+        """Hears all, up to a time. What is under way is told each minute."""
+        while self.processes and (left := end - time.monotonic()) > 0:
+            before = len(self.processes)
+            self.hear(min(left, MINUTE))
+            if len(self.processes) == before:
+                say(f"{before} of {self.count} processes are at work, for {left:.0f} seconds at most")
+
+    def stop(self):
+        """Stops those that have not answered."""
+        for number, process in self.processes.values():
+            say(f"process {number + 1} of {self.count} had not ended, and was stopped")
+            process.kill()
+            process.join(SECONDS)
+
+
+def side_by_side(count, work, seconds):
+    """What so many processes answer, each of which does the work under a number of its own; one alone is this one. Whichever
+    has not answered after so many seconds is stopped. Without an answer there is none in its place."""
     if count == 1:
         return [deep(partial(work, 0))]
-    sys.stdout.flush()
-    fork, pipes = multiprocessing.get_context("fork"), []
-    for number in range(count):
-        pipe, its = fork.Pipe(duplex=False)
-        fork.Process(target=lambda: its.send(deep(partial(work, number)))).start()
-        its.close()
-        pipes.append(pipe)
-    return [pipe.recv() for pipe in pipes]
+    jobs = Jobs(count, work)
+    jobs.hear_all(time.monotonic() + seconds)
+    jobs.stop()
+    return [jobs.answers.get(number) for number in range(count)]

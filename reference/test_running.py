@@ -3,6 +3,8 @@ import contextlib
 import io
 import os
 import runpy
+import subprocess
+import sys
 import threading
 import time
 import unittest
@@ -10,7 +12,7 @@ from pathlib import Path
 from unittest.mock import patch
 
 import running
-from running import Conversation, Ended, ahead, run
+from running import Conversation, Ended, ahead, run, side_by_side
 
 HERE = Path(__file__).resolve().parent
 FAKE = str(HERE / "fake")
@@ -83,6 +85,21 @@ class Scripts(unittest.TestCase):
         self.expect(WAITS, COMPARE, SEVERAL, LOGS, WORKERS, TALK)
         self.expect(dict.fromkeys(["omits end", "cuts end"], "it was stopped after 1 seconds"), WORKERS, TALK)
 
+    def test_a_comparison_ends_behind_programs_that_never_answer(self):
+        begin = "import running, runpy, sys; running.SECONDS = 1; del sys.argv[0]; runpy.run_path(sys.argv[0], run_name='__main__')"
+        words = [sys.executable, "-c", begin, HERE / "compare", "--seconds", "0.5", "--jobs", "2", FAKE]
+        for fault in ("hangs 0", "hangs end"):
+            # Each program ignores SIGTERM besides. More than some seconds would be tries to make sessions short.
+            ended = subprocess.run(words, cwd=HERE, env={**os.environ, "FAULT": fault}, capture_output=True, text=True, timeout=100, check=False)
+            self.assertEqual((ended.returncode, ended.stderr), (1, ""))
+            self.assertIn("it was stopped after 1 seconds", ended.stdout)
+            self.assertRegex(ended.stdout, r"\n([1-9][0-9]*) sessions compared, \1 differ\n$")
+
+    def test_what_is_under_way_is_told(self):
+        with patch.object(running, "SHORTENING", 0), contextlib.redirect_stderr(io.StringIO()) as said:
+            told(COMPARE, "--seconds", "0.1", FAKE, fault="complains 2")
+        self.assertIn("a session differs; it is made short, for 0 seconds at most ..\n", said.getvalue())
+
     @patch.object(running, "SECONDS", 5)
     def test_what_a_program_had_said_is_told(self):
         self.expect({"hangs 2": "n := n .*: '' and not 'ok e3 e3.m0.n'(.|\n)*and had said 'ok e1 e1.m0.nok e2 value 2.n'"}, TALK)
@@ -101,6 +118,26 @@ class Ahead(unittest.TestCase):
         is_made = threading.Event()
         items = (is_made.set() if it == 3 else it for it in range(4))
         self.assertEqual([answer for _, answer in ahead(items, lambda _: is_made.wait(60))], [True] * 4)
+
+
+class SideBySide(unittest.TestCase):
+    def told(self, seconds, *works):
+        """What processes answer, each with a work of its own, and what is told meanwhile."""
+        with contextlib.redirect_stderr(io.StringIO()) as said:
+            return side_by_side(len(works), lambda number: works[number](), seconds), said.getvalue()
+
+    def test_answers_come_in_order(self):
+        self.assertEqual(self.told(60, lambda: time.sleep(0.2) or 1, lambda: 2), ([1, 2], ""))
+
+    def test_a_process_without_an_answer_is_told(self):
+        answers, said = self.told(60, lambda: os._exit(3), lambda: 2)
+        self.assertEqual((answers, said), ([None, 2], "process 1 of 2 ended without an answer, with 3\n"))
+
+    @patch.object(running, "MINUTE", 0.1)
+    def test_one_that_does_not_end_is_told_and_stopped(self):
+        answers, said = self.told(1, lambda: 1, lambda: time.sleep(1_000))
+        self.assertEqual(answers, [1, None])
+        self.assertRegex(said, "\n1 of 2 processes are at work, for [01] seconds at most\n(.|\n)*2 of 2 had not ended, and was stopped\n$")
 
 
 class Runs(unittest.TestCase):
@@ -122,6 +159,12 @@ class Runs(unittest.TestCase):
         with Conversation(words) as conversation:
             self.assertEqual(conversation.hear(lambda said: said == b"a\n"), "a\n")
             self.assertEqual((conversation.end(), conversation.said), ((None, "", ""), "a\n"))
+
+    @patch.object(running, "SECONDS", 0.5)
+    def test_a_program_that_takes_nothing_is_stopped(self):
+        with Conversation(["sleep", "1000"]) as conversation:
+            conversation.give("x" * 1_000_000)
+            self.assertEqual(conversation.end(), (None, "", ""))
 
     @patch.object(running, "MOST", 1_000_000)
     def test_a_program_that_does_not_end_its_reply_is_stopped(self):
