@@ -2,7 +2,9 @@
 import argparse
 import os
 import re
+import resource
 import shutil
+import signal
 import subprocess
 import sys
 import tempfile
@@ -64,9 +66,14 @@ def program_of(word):
 
 def meter_of(options):
     """What measures, as the words want it."""
-    if options.instructions and not shutil.which(COUNTING[0]):
+    return counting_meter(options) if options.instructions else Seconds(program_of(options.program))
+
+
+def counting_meter(options, limit=None):
+    """What counts instructions, of runs that take at most so many processor seconds."""
+    if not shutil.which(COUNTING[0]):
         complain(f"there is no {COUNTING[0]}, which has to count the instructions")
-    return (Instructions if options.instructions else Seconds)(program_of(options.program))
+    return Instructions(program_of(options.program), limit)
 
 
 def text_of(lines):
@@ -129,14 +136,21 @@ def started(words, **streams):
         complain(f"cannot run {words[0]}: {fault.strerror}")
 
 
-def run(words, text):
-    """Runs a command to its end, with this for its input."""
+class TookTooLong(Exception):
+    """A run took more processor time than it was given."""
+
+
+def run(words, text, limit=None):
+    """Runs a command to its end, with this for its input, and at most so many processor seconds."""
+    give = limit and (lambda: resource.setrlimit(resource.RLIMIT_CPU, (limit, limit + 5)))
     with tempfile.TemporaryFile() as given, tempfile.TemporaryFile() as out, tempfile.TemporaryFile() as said:
         given.write(text.encode())
         given.seek(0)
-        child = started(words, stdin=given, stdout=out, stderr=said)
+        child = started(words, stdin=given, stdout=out, stderr=said, preexec_fn=give)
         _, status, used = os.wait4(child.pid, 0)
         child.returncode = os.waitstatus_to_exitcode(status)
+        if limit and child.returncode in (-signal.SIGXCPU, -signal.SIGKILL):
+            raise TookTooLong
         seconds, memory = used.ru_utime + used.ru_stime, used.ru_maxrss * 1024
         return Ended(words, child.returncode, seconds, memory, read_whole(out), read_whole(said))
 
@@ -209,13 +223,15 @@ class Seconds(Meter):
         return f"{theirs / mine:6.2f} times as fast"
 
 
+@dataclass(frozen=True)
 class Instructions(Meter):
-    """Instructions, of which each run takes the same number."""
+    """Instructions, of which each run takes the same number. A run may take so many processor seconds, where that is limited."""
 
+    limit: int | None = None
     is_exact = True
 
     def cost(self, words, text):
-        ended = run((*COUNTING, *words), text)
+        ended = run((*COUNTING, *words), text, self.limit)
         return self.found(COUNTED, ended)[0], ended
 
     def memory(self, commands):
@@ -238,3 +254,43 @@ class Instructions(Meter):
 
     def beside_python(self, mine, theirs):
         return f"{mine / theirs:6.2f} times those of python3"
+
+
+@dataclass(frozen=True)
+class Run:
+    """Commands, what they cost, and what the last of them added to that."""
+
+    meter: Meter
+    text: str
+    cost: float
+    added: float
+
+    def then(self, lines, last="ok "):
+        """The same with these commands behind it, the last of which is answered so."""
+        text = self.text + text_of(lines)
+        cost = self.meter.ours(text, last)
+        return Run(self.meter, text, cost, max(cost - self.cost, 0))
+
+
+def run_of(meter, session):
+    return Run(meter, "", 0, 0).then(session.lines)
+
+
+def with_vats(*names):
+    """A session of vats that have a variable."""
+    session = Session()
+    for name in names:
+        session.birth(name, ["var n := 0"])
+    return session
+
+
+def with_questions(count):
+    """A session of so many questions that add one, each with its turn."""
+    session = with_vats("a")
+    for _ in range(count):
+        session.ask("a", "n := n + 1")
+    return session
+
+
+def names_of(events):
+    return " ".join(f"e{event}" for event in events)
