@@ -1,4 +1,4 @@
-"""Which files, headings and names a document about the crates speaks of.
+"""Which files and names a document about the crates speaks of, and whether it quotes functions as they are.
 
 A path without a crate is in the crate that was named last in the same item, and else in the crate whose README it is; a file
 without a folder is in the folder that was named last.
@@ -10,9 +10,7 @@ from pathlib import Path
 FENCE = re.compile(r"^```.*?^```$", re.MULTILINE | re.DOTALL)
 ITEM = re.compile(r"\n\s*\n|\n(?=\s*(?:[-*]|\d+\.) |\|)")
 CODE = re.compile(r"`([^`]+)`")
-LINK = re.compile(r"\[[^\]]*\]\(([^)\s]+)\)")
-HEADING = re.compile(r"^#+ (.*)$", re.MULTILINE)
-OF_CRATE = re.compile(r"(?:src|specs|proofs|mutants|must-fail)/[\w/.]*")
+OF_CRATE = re.compile(r"(?:src|specs|proofs|must-fail)/[\w/.]*|mutants\.edits")
 OF_REPOSITORY = re.compile(r"\.?\w[\w.-]*/[\w./-]*")
 FILE = re.compile(r"[\w-]+\.(?:rt|antt|py|js|css|md|table|edit)")
 NAME = re.compile(r"[A-Za-z_]\w*(?:::[A-Za-z_]\w*)*")
@@ -70,24 +68,6 @@ def paths_in(text, place):
 def names_in(text):
     """The names of definitions, functions and types that a document has in its code."""
     return {part for item in items_of(text) for words in code_in(item) if NAME.fullmatch(words) for part in words.split("::")}
-
-
-def anchor_of(heading):
-    """How a link names a heading."""
-    return re.sub(r"[^\w\- ]", "", heading.lower()).replace(" ", "-")
-
-
-def lost_links(file):
-    """The links of a document that lead to no file or to no heading."""
-    for target in LINK.findall(FENCE.sub("", file.read_text(encoding="utf-8"))):
-        path, _, anchor = target.partition("#")
-        if "://" in target:
-            continue
-        to = file.parent / path if path else file
-        if not to.exists():
-            yield target
-        elif anchor and anchor not in map(anchor_of, HEADING.findall(to.read_text(encoding="utf-8"))):
-            yield target
 
 
 def lost_quotes(file):

@@ -1,4 +1,4 @@
-"""Looks whether what the READMEs of the crates and docs/MAP.md speak of is there: files, headings, names, and functions as quoted."""
+"""Looks whether what the READMEs of the crates and docs/MAP.md speak of is there: files, names, and functions as quoted."""
 import re
 import tempfile
 import unittest
@@ -7,7 +7,7 @@ from pathlib import Path
 from building.crates import ROOT, crate_of
 
 from .house import TESTS, faces_in, families_in, not_lowest_first
-from .naming import Place, anchor_of, lost_links, lost_quotes, names_in, paths_in
+from .naming import Place, lost_quotes, names_in, paths_in
 
 CRATES = ROOT / "crates"
 WORD = re.compile(r"\w+")
@@ -42,11 +42,6 @@ class Told(unittest.TestCase):
         for file in documents():
             with self.subTest(file):
                 self.assertEqual(set(), names_in(file.read_text(encoding="utf-8")) - words)
-
-    def test_links_lead_somewhere(self):
-        for file in [*documents(), ROOT / "README.md", ROOT / "CONTRIBUTING.md", *ROOT.glob("docs/*.md")]:
-            with self.subTest(file):
-                self.assertEqual([], list(lost_links(file)))
 
     def test_functions_stand_as_they_are_quoted(self):
         for file, crate in documents().items():
@@ -109,12 +104,6 @@ class Finding(unittest.TestCase):
 
     def test_names_are_those_in_code(self):
         self.assertEqual({"Book", "undo", "lost"}, names_in("Book `Book::undo`, `lost`\n\n```\n`fence`\n```\n`two words`\n"))
-
-    def test_links_that_lead_nowhere_are_told(self):
-        self.write("docs/MAP.md", "# The way of `ask a f(3)`\n")
-        file = self.write("README.md", "[a](docs/MAP.md#the-way-of-ask-a-f3) [b](docs/MAP.md#lost) [c](lost.md) [d](https://e.org)\n")
-        self.assertEqual(["docs/MAP.md#lost", "lost.md"], list(lost_links(file)))
-        self.assertEqual("i-want-to-change-", anchor_of("I want to change .."))
 
     def test_a_function_that_changed_is_told(self):
         self.write("crates/low/src/lib.rt", "impl Low {\n    fn low() {\n        1\n\n        2\n    }\n}\n")
