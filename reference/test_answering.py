@@ -4,11 +4,13 @@ import subprocess
 import sys
 import tempfile
 import unittest
+from unittest.mock import patch
 
 import running
 from running import Conversation
+from standing import Built
 from streams import lines_in
-from test_running import HERE, told
+from test_running import FAKE, HERE, told
 from texts import cases_of, companion
 from words import NoText, Options, Shown, WrongWords, options_of, quoted, quoted_bytes
 
@@ -112,6 +114,35 @@ class Ends(unittest.TestCase):
             self.assertEqual(self.limited("FSIZE=1024", "step\n" * 1_000, stdout=replies), (2, "", "evats: writing failed\n"))
             replies.seek(0)
             self.assertEqual(replies.read(), b"idle\n" * 204 + b"idle")
+
+
+class Alike(unittest.TestCase):
+    def test_a_program_that_does_all_is_passed(self):
+        said = "1 sessions, 0 differ\n"
+        self.assertEqual(told(["alike"], "--program", FAKE, "mint"), (False, said))
+        self.assertEqual(told(["alike"], "--jobs", "2", "--program", FAKE, "mint"), (False, said))
+
+    def test_each_fault_is_told(self):
+        for fault, wanted in (
+            ("dies 2", "ended with status [01], and wanted is -9"),
+            ("omits end", "wanted: nothing"),
+            ("mistakes end", "ended with status 0, and wanted is 1"),
+            ("complains 2", "line 1 of standard error\n    wanted: oh\n    got:    nothing"),
+        ):
+            with self.subTest(fault):
+                is_failed, said = told(["alike"], "--program", FAKE, "mint", fault=fault)
+                self.assertTrue(is_failed)
+                self.assertRegex(said, f"^FAILED examples/mint \\(whole\\):\n(.|\n)*{wanted}(.|\n)*\n1 sessions, 1 differ\n$")
+
+    def test_a_program_that_hangs_is_stopped(self):
+        with patch.object(Built, "seconds", 1):
+            is_failed, said = told(["alike"], "--program", FAKE, "mint", fault="hangs 0")
+        self.assertTrue(is_failed)
+        self.assertRegex(said, "wanted: nothing\n(.|\n)*1 sessions, 1 differ\n$")
+
+    def test_without_a_session_nothing_is_passed(self):
+        self.assertEqual(told(["alike"], "--program", FAKE, "no_such_session"),
+                         (True, "FAILED no_such_session (whole):\n  there is no such test\n1 sessions, 1 differ\n"))
 
 
 if __name__ == "__main__":
