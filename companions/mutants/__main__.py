@@ -65,7 +65,9 @@ def try_all(root, crates, wanted, given, display):
         earlier = [] if given.anew else results[name].earlier(mutants)
         for told in earlier:
             report.add_earlier(name, told)
-        left[name] = [mutant for mutant in mutants if mutant not in [it.mutant for it in earlier]]
+        known = [told.mutant for told in earlier]
+        if len(known) < len(mutants):
+            left[name] = [mutant for mutant in mutants if mutant not in known]
 
     def tell(name, told):
         results[name].keep(told)
@@ -75,9 +77,9 @@ def try_all(root, crates, wanted, given, display):
             print(fault_of(name, told), file=display.out, flush=True)
 
     with tempfile.TemporaryDirectory(prefix="evats-mutants-") as rooms:
-        crew = Crew(root, crates, Path(rooms), given.jobs, tell, rt())
         try:
-            crew.try_all({name: mutants for name, mutants in left.items() if mutants}, lambda at_work: display.show(report.line(at_work)))
+            crew = Crew(root, crates, Path(rooms), given.jobs, tell, rt())
+            crew.try_all(left, lambda at_work: display.show(report.line(at_work)))
         finally:
             display.clear()
     return report
@@ -103,6 +105,7 @@ def main(words):
         print(f"mutants: {fault}", file=sys.stderr)
         return 2
     except Interrupted as interrupted:
+        print("mutants: interrupted; what was tried is kept, and the same command goes on", file=sys.stderr)
         return interrupted.status
 
 

@@ -60,13 +60,12 @@ class Report:
         return "\n".join("  ".join([row[0].ljust(widths[0]), *map(str.rjust, row[1:], widths[1:])]) for row in rows)
 
     def total(self):
-        """What came of all, in a line."""
+        """What came of all, and what it took."""
         faults, seconds = len(self.faults()), sum(it.seconds for of in self.told.values() for it in of)
         earlier = f", {self.earlier} of them tried by an earlier run" if self.earlier else ""
-        took = duration(self.clock() - self.begun)
         return (
-            f"{counted(self.tried, 'mutant')}{earlier}: {self.tried - faults} refused, {faults} to be mended; "
-            f"{seconds / 3600:.1f} hours of one core, this run {took}"
+            f"{counted(self.tried, 'mutant')}{earlier}: {self.tried - faults} refused, {faults} to be mended\n"
+            f"{duration(seconds)} of one core; this run took {duration(self.clock() - self.begun)}"
         )
 
 

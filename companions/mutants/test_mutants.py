@@ -3,8 +3,11 @@ says what `rt` would."""
 import contextlib
 import io
 import os
+import signal
 import subprocess
+import sys
 import tempfile
+import time
 import unittest
 from pathlib import Path
 from unittest import mock
@@ -23,6 +26,7 @@ from .results import Results, sum_of
 from .telling import Report
 from .trial import Told, furnished
 
+COMPANIONS = Path(__file__).resolve().parents[1]
 SOURCE = """\
 //! Doubles.
 ghost use Rattle.std.specs.Prelude.{◌≡◌};
@@ -91,6 +95,15 @@ for name in names:
     is_proved = not wrong[name] and "u16" not in text
     print(f"fn high::{name}: {'proved' if is_proved else 'not proved'}")
 sys.exit(1 if any(wrong[name] for name in names) or "u16" in text else 0)
+"""
+# Tries the mutants of `high` in another repository than this one.
+RUN = """\
+import sys
+sys.path.insert(0, sys.argv[1])
+from pathlib import Path
+from mutants import __main__ as mutants, results
+mutants.ROOT, results.sum_of_kit = Path(sys.argv[2]), lambda: "a kit"
+sys.exit(mutants.main(["high"]))
 """
 
 
@@ -405,6 +418,20 @@ class Kept(Side):
         self.tried("less")
         self.assertEqual(self.tried("less", "one")[1], ["high lib", "high check --only Pair::sum"])
 
+    def test_an_interrupted_run_ends_what_it_started(self):
+        self.there.write("crates/high/mutants.edits", told("less"))
+        self.rt.write_text("#!/bin/sh\necho $$ > \"$(dirname \"$0\")/number\"\nsleep 60\n")
+        words = [sys.executable, "-I", "-S", "-c", RUN, COMPANIONS, self.there.root]
+        ran = subprocess.Popen(words, stdout=subprocess.DEVNULL, stderr=subprocess.PIPE, text=True)
+        number = self.rt.with_name("number")
+        while not number.is_file() or not number.read_text():
+            time.sleep(0.05)
+        ran.send_signal(signal.SIGTERM)
+        self.assertIn("the same command goes on", ran.communicate(timeout=60)[1])
+        self.assertEqual(ran.returncode, 128 + signal.SIGTERM)
+        with self.assertRaises(ProcessLookupError):
+            os.kill(int(number.read_text()), 0)
+
     def test_a_line_that_was_cut_off(self):
         self.tried("less")
         file = self.at / "cache/evats-mutants/high"
@@ -445,7 +472,7 @@ class Telling(unittest.TestCase):
         self.assertEqual(self.report.table().splitlines(), ["Crate  Mutants  Refused  Seconds", "high         2        1      120"])
         with contextlib.redirect_stdout(io.StringIO()) as out:
             self.assertEqual(tell_all(self.report), 1)
-        fault, total = "crates/high/mutants.edits: one: got through: it is still proved", "2 mutants: 1 refused, 1 to be mended; "
+        fault, total = "crates/high/mutants.edits: one: got through: it is still proved", "2 mutants: 1 refused, 1 to be mended\nabout 2 minutes of one core; "
         self.assertIn(f"{fault}\n{total}", out.getvalue())
 
 
