@@ -1,21 +1,23 @@
-"""Runs the program on the words given here, once it is built.
+"""Runs the program on the words given here.
 
-usage: ./run [WORDS]             proves the program first, where that was not done yet
-       ./run --unproved [WORDS]  builds it without its proofs, where that was not done yet
+usage: ./run [WORDS]             the program that ./prove proved of these sources; without one, it is built without the proofs, and
+                                 where there is no kit of Rattle, the plain interpreter takes its place: it is told which
+       ./run --proved [WORDS]    the proved program, or none
 
-WORDS are those of the program: `./run --unproved --help` prints them.
+WORDS are those of the program, as [FILE]: its own --help tells them once it is built.
 """
 import os
 import signal
 import sys
 
-from .builds import proved_build, unproved_build
-from .crates import Fault
+from .builds import proved_build
+from .chosen import chosen_program
+from .crates import PROGRAM, ROOT, Fault
 from .processes import Interrupted, interruptions
-from .programs import NOTHING_PROVED, say, unproved_program
-from .proving import prove
+from .programs import Choice, is_built, say
 
 HELP = (["-h"], ["--help"])
+PROVED = "--proved"
 WITH_A_NUMBER = ("--budget", "--workers")
 OPTIONS = (*WITH_A_NUMBER, "--help", "--version", "--")
 
@@ -29,16 +31,11 @@ def check_words(words):
             raise Fault(f"cannot read {word}; nothing was built")
 
 
-def program_for(is_unproved, words):
-    """The program to run on these words."""
-    if not (unproved_build() if is_unproved else proved_build()).is_current():
-        check_words(words)
-    if is_unproved:
-        return unproved_program()
-    build = proved_build()
-    if not build.is_current():
-        prove(build)
-    return build.program
+def proved_choice(root):
+    """The proved program, or none."""
+    if not proved_build(root).is_current():
+        raise Fault(f"{PROGRAM} is not proved here, or its sources have changed since: ./prove proves and builds it")
+    return Choice(proved_build(root).program)
 
 
 def become(program, words):
@@ -50,18 +47,20 @@ def become(program, words):
     os.execv(program, [str(program), *words])
 
 
-def main(words):
-    is_unproved = words[:1] == ["--unproved"]
-    words = words[is_unproved:]
+def main(words, root=ROOT):
+    has_to_be_proved = words[:1] == [PROVED]
+    words = words[has_to_be_proved:]
     try:
-        if words in HELP and not is_unproved and not proved_build().is_current():
-            print(__doc__.rstrip())
-            return 0
+        if not has_to_be_proved and not is_built(root):
+            if words in HELP:
+                print(__doc__.rstrip())
+                return 0
+            check_words(words)
         with interruptions():
-            program = program_for(is_unproved, words)
-        if is_unproved:
-            say(NOTHING_PROVED)
-        become(program, words)
+            chosen = proved_choice(root) if has_to_be_proved else chosen_program(root)
+        if chosen.told:
+            say(chosen.told)
+        become(chosen.program, words)
     except (Fault, OSError) as fault:
         say(f"run: {fault}")
     except Interrupted as interrupted:

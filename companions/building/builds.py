@@ -2,6 +2,7 @@
 import contextlib
 import fcntl
 import os
+import shutil
 from dataclasses import dataclass
 from pathlib import Path
 
@@ -22,9 +23,13 @@ class Build:
     def record(self):
         return self.program.with_suffix(".sums")
 
+    def crates(self):
+        """The crates that the program is made from, the lowest first."""
+        return lowest_first(read_crates(self.root), PROGRAM)
+
     def sources(self):
         """The sum of all that the program is made from, as it is now."""
-        return sums_of(self.root, lowest_first(read_crates(self.root), PROGRAM), self.parts)[PROGRAM]
+        return sums_of(self.root, self.crates(), self.parts)[PROGRAM]
 
     def is_current(self):
         """Whether the program that stands was made from the sources as they are now."""
@@ -34,6 +39,17 @@ class Build:
     def note(self, sources):
         """Notes that the program that stands was made from these sources."""
         write_whole(self.record, recorded(sources, sum_of_file(self.program)))
+
+    def put(self, made, sources):
+        """Puts a program that was made from these sources in place of the one that stands, at once, so that nobody starts half of
+        it."""
+        part = self.program.with_name(f"{self.program.name}.{os.getpid()}")
+        try:
+            shutil.copy(made, part)
+            os.replace(part, self.program)
+        finally:
+            part.unlink(missing_ok=True)
+        self.note(sources)
 
 
 def recorded(sources, made):
@@ -65,6 +81,11 @@ def unproved_build(root=ROOT):
     return Build(root, root / "out" / "unproved" / PROGRAM, CODE, False)
 
 
+def quick_build(root=ROOT):
+    """The program without its proofs as it was compiled quickly, which stands in until the other one is there."""
+    return Build(root, root / "out" / "quick" / PROGRAM, CODE, False)
+
+
 @contextlib.contextmanager
 def locked(paths, waiting):
     """Holds these files or folders for this process alone; where another one holds one, `waiting` is called with it first."""
@@ -82,8 +103,15 @@ def locked(paths, waiting):
 def hold(number, path, waiting):
     # Some file systems have no locks.
     with contextlib.suppress(OSError):
-        try:
-            fcntl.flock(number, fcntl.LOCK_EX | fcntl.LOCK_NB)
-        except BlockingIOError:
+        if not take_at_once(number):
             waiting(path)
             fcntl.flock(number, fcntl.LOCK_EX)
+
+
+def take_at_once(number):
+    """Takes the lock of an open file where nobody holds it, and tells whether that was so."""
+    try:
+        fcntl.flock(number, fcntl.LOCK_EX | fcntl.LOCK_NB)
+    except BlockingIOError:
+        return False
+    return True

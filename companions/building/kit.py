@@ -1,10 +1,16 @@
 """Where the kit of Rattle is, and what it has."""
+import os
 import re
 from pathlib import Path
 
 from .crates import Fault
 
-KIT = Path("/opt/rattle")
+KIT = Path(os.environ.get("EVATS_KIT") or "/opt/rattle").absolute()
+
+
+def is_there():
+    """Whether there is a kit at all."""
+    return (KIT / "KIT-ID").is_file()
 
 
 def uses_of(library):

@@ -12,7 +12,7 @@ IS_INSTALLED = (ROOT / NOTE).is_file()
 # How the program is run on a file.
 RUN = PROGRAM if IS_INSTALLED else "./run"
 # What a companion takes where no program is named.
-USUAL = "the installed one" if IS_INSTALLED else "the one that ./run proved, else that of ./run --unproved"
+USUAL = "the installed one" if IS_INSTALLED else "the proved one, else one without proofs"
 
 
 @dataclass(frozen=True)

@@ -232,7 +232,6 @@ def prove(build):
     """Proves and builds the program; sources that change meanwhile are proved again."""
     rt()
     display = progress.Display(sys.stderr)
-    print(f"proving {PROGRAM} first; ./run --unproved answers in about two minutes, without the proofs", file=display.out, flush=True)
     try:
         while not build.is_current():
             prove_once(build, display)

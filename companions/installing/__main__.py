@@ -4,7 +4,7 @@
   PREFIX/lib/evats    what these need, the documents of the language among it, and the list of all that was put
   PREFIX/share        the manual page, the completion for bash, the mode for vim, the TextMate grammar
 
-The program is the one that ./run proved and built of the sources as they are. Where there is none, nothing is installed.
+The program is the one that ./prove proved and built of the sources as they are. Where there is none, nothing is installed.
 With --unproved it is one of which nothing is proved; it is built first, where that was not done yet. The manual page says so then,
 and `evats --version` and `evats --help` do on standard error.
 
@@ -26,8 +26,8 @@ from .prefix import Prefix, put, take_away
 
 NOT_BUILT = """\
 there is no program that was proved of the sources as they are, so nothing was installed.
-  ./run < /dev/null       proves and builds it, and says how long that takes
-  ./install --unproved    installs one of which nothing is proved, which is built in about two minutes"""
+  ./prove                 proves and builds it, and says how long that takes
+  ./install --unproved    installs one of which nothing is proved, which is built in some minutes"""
 
 
 def words_of(words):

@@ -231,7 +231,7 @@ class Unproved(Case):
             file.write("# another one than was noted\n")
         status, printed, told = self.run_install(self.prefix)
         self.assertEqual((status, printed, self.prefix.exists()), (2, "", False))
-        for words in ("./run < /dev/null", "./install --unproved"):
+        for words in ("./prove", "./install --unproved"):
             self.assertIn(words, told)
 
 

@@ -54,7 +54,7 @@ def report(verdicts):
 
 def words_of(words):
     parser = argparse.ArgumentParser(prog="tests/run", description=__doc__, formatter_class=argparse.RawDescriptionHelpFormatter)
-    parser.add_argument("--program", help="the program; without it the one that ./run proved, else that of ./run --unproved")
+    parser.add_argument("--program", help="the program; without it the proved one, else one without proofs")
     parser.add_argument("--accept", action="store_true", help="first write what the program replies into the files")
     parser.add_argument("--seconds", type=float, default=SECONDS, help=f"how long a run may take; {SECONDS} if not given")
     parser.add_argument("names", metavar="NAME", nargs="*", help="what to run; without it everything")

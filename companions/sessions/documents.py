@@ -6,7 +6,6 @@ from .tables import HEAD, Row, cases_of
 
 BEGUN = re.compile(r"^\./run\b.*<<'END'$", re.MULTILINE)
 SESSION = re.compile(r"```sh\n\./run\b([^\n]*) <<'END'\n(.*?)\nEND\n```\n\nIt prints:\n\n```\n(.*?)\n```", re.DOTALL)
-UNPROVED = "--unproved"
 SCRIPT = re.compile(r"vat whose script is `([^`]+)`")
 ASKED = ["ask a ..", "Reply"]
 COMMANDED = ["Line of commands", "Reply"]
@@ -33,8 +32,7 @@ def session_of(name, text, found):
     """The case of a session that was found in a document, with the words that `./run` hands on."""
     words, commands, replies = found.groups()
     line = text.count("\n", 0, found.start()) + 1
-    arguments = [word for word in words.split() if word != UNPROVED]
-    return case_of(f"{name}:{line}", commands.split("\n"), replies.split("\n"), arguments)
+    return case_of(f"{name}:{line}", commands.split("\n"), replies.split("\n"), words.split())
 
 
 def sessions_of(name, text):

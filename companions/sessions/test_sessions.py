@@ -261,7 +261,7 @@ class Documents(unittest.TestCase):
     def test_sessions_and_rows_are_found(self):
         session = "```sh\n./run <<'END'\nshow\nstep\nEND\n```\n\nIt prints:\n\n```\nidle\n```\n"
         self.assertEqual(documents.sessions_of("D", session), [case_of("D:1", ["show", "step"], ["idle"])])
-        (case,) = documents.sessions_of("D", session.replace("./run", "./run --unproved --budget 3"))
+        (case,) = documents.sessions_of("D", session.replace("./run", "./run --budget 3"))
         self.assertEqual(case.arguments, ("--budget", "3"))
         self.assertIsInstance(documents.sessions_of("D", session.replace("It prints:", "So:"))[0], Broken)
         table = "# A\nIn a vat whose script is `def x := 6`:\n\n| `ask a ..` | Reply |\n|---|---|\n| `x \\|\\| x` | `value 6` |\n"

@@ -1,7 +1,7 @@
 """Tries `./talk` on the built program: by its tests, at a terminal too, and over pipes, where its replies must be those of the
 program.
 
-usage: tests/talk [PROGRAM]     (without PROGRAM: the one that ./run proved, else that of ./run --unproved)
+usage: tests/talk [PROGRAM]     (without PROGRAM: the proved one, else one without proofs)
 
 Over pipes the sessions of tests and of examples are run. The last line is `N passed, M failed`.
 """

@@ -1,6 +1,6 @@
 """Tries `./workbench` on the built program: by its tests, in a browser too.
 
-usage: tests/workbench [PROGRAM]     (without PROGRAM: the one that ./run proved, else that of ./run --unproved)
+usage: tests/workbench [PROGRAM]     (without PROGRAM: the proved one, else one without proofs)
        tests/workbench --photos      writes the pictures of the page in docs, to be looked at
 
 The last line is `N passed, M failed`; where the browser is missing, the tests say so, and those of the page count as failed.
@@ -24,7 +24,7 @@ from .visitor import Visitor
 
 TESTS = ["conversation.test_conversation", "causes.test_causes", "workbench.test_workbench", "workbench.test_page"]
 # What is done behind the first session of the README, and photographed.
-FIRST = re.compile(r"\./run --unproved <<'END'\n(.*?)\ncone e8\n", re.DOTALL)
+FIRST = re.compile(r"\./run <<'END'\n(.*?)\ncone e8\n", re.DOTALL)
 
 
 def tried(program):

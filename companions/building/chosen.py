@@ -1,0 +1,53 @@
+"""Keeps which program was chosen, with how all stood that the choice depends on: `./run` takes it again as long as that is so."""
+import subprocess
+import time
+from pathlib import Path
+
+from .builds import write_whole
+from .kit import KIT
+from .programs import choice
+
+LISTING = Path(__file__).with_name("listing")
+# How long ago a change must be, in seconds, so that another one behind it has another time; some file systems count whole seconds.
+FINE, COARSE = 0.1, 2
+# How often it is looked again where something changed meanwhile: as when the program was built.
+TIMES = 2
+
+
+def path_of(root):
+    """Where the choice stands: three lines, of the program, of what is told of it, and of the process that makes a better one; then
+    the listing."""
+    return root / "out" / "chosen"
+
+
+def listing(root):
+    """How all stands that the choice depends on."""
+    return subprocess.run([LISTING, root, KIT], capture_output=True, text=True, errors="replace", check=False).stdout
+
+
+def is_calm(listed, now):
+    """Whether a change from now on will be seen in the next listing."""
+    try:
+        changes = [float(line.split(" ", 6)[4]) for line in listed.splitlines()]
+    except (IndexError, ValueError):
+        return False
+    return all(change < now - (COARSE if change.is_integer() else FINE) for change in changes)
+
+
+def keep(root, chosen, listed):
+    program = chosen.program.relative_to(root)
+    path_of(root).parent.mkdir(exist_ok=True)
+    write_whole(path_of(root), f"{program}\n{chosen.told}\n{chosen.behind or ''}\n{listed}")
+
+
+def chosen_program(root):
+    """The program to run, which is kept for the next time."""
+    for _ in range(TIMES):
+        begun, before = time.time(), listing(root)
+        chosen = choice(root)
+        if before == listing(root):
+            if is_calm(before, begun):
+                keep(root, chosen, before)
+            break
+        time.sleep(FINE)
+    return chosen
