@@ -1,4 +1,5 @@
 """Keeps which program was chosen, with how all stood that the choice depends on: `./run` takes it again as long as that is so."""
+import hashlib
 import subprocess
 import time
 from pathlib import Path
@@ -15,20 +16,20 @@ TIMES = 2
 
 
 def path_of(root):
-    """Where the choice stands: three lines, of the program, of what is told of it, and of the process that makes a better one; then
-    the listing."""
+    """Where the choice stands in four lines: the program, what is told of it, the process that makes a better one, and the sum of the
+    listing as `sha256sum` tells it."""
     return root / "out" / "chosen"
 
 
 def listing(root):
     """How all stands that the choice depends on."""
-    return subprocess.run([LISTING, root, KIT], capture_output=True, text=True, errors="replace", check=False).stdout
+    return subprocess.run([LISTING, root, KIT], capture_output=True, check=False).stdout
 
 
 def is_calm(listed, now):
     """Whether a change from now on will be seen in the next listing."""
     try:
-        changes = [float(line.split(" ", 6)[4]) for line in listed.splitlines()]
+        changes = [float(line.split(b" ", 3)[2]) for line in listed.splitlines()]
     except (IndexError, ValueError):
         return False
     return all(change < now - (COARSE if change.is_integer() else FINE) for change in changes)
@@ -37,7 +38,7 @@ def is_calm(listed, now):
 def keep(root, chosen, listed):
     program = chosen.program.relative_to(root)
     path_of(root).parent.mkdir(exist_ok=True)
-    write_whole(path_of(root), f"{program}\n{chosen.told}\n{chosen.behind or ''}\n{listed}")
+    write_whole(path_of(root), f"{program}\n{chosen.told}\n{chosen.behind or ''}\n{hashlib.sha256(listed).hexdigest()}  -\n")
 
 
 def chosen_program(root):
