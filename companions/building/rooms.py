@@ -7,6 +7,7 @@ import contextlib
 import hashlib
 import os
 import shutil
+import stat
 import tempfile
 from dataclasses import dataclass
 from pathlib import Path
@@ -19,16 +20,38 @@ from .sums import CODE_AND_PROOFS, sums_of
 LEFT = ("rlib", "incremental")
 
 
+def caches():
+    """The folders below which the rooms may stand, and what theirs is called there."""
+    # Who has no home has no folder for what is kept there.
+    with contextlib.suppress(RuntimeError):
+        yield Path(os.environ.get("XDG_CACHE_HOME") or Path.home() / ".cache"), "evats-proving"
+    yield Path(tempfile.gettempdir()), f"evats-proving-{os.getuid()}"
+
+
 def place_of_rooms(root):
     """Where the rooms of a repository stand: outside it, where no check of the whole finds them; if it may be on the same disk,
     so that libraries need no copies."""
-    cache = Path(os.environ.get("XDG_CACHE_HOME") or Path.home() / ".cache")
-    places = [cache / "evats-proving", Path(tempfile.gettempdir()) / f"evats-proving-{os.getuid()}"]
+    # `rt` tells paths without links.
+    places = [Path(os.path.realpath(folder)) / name for folder, name in caches()]
     place = next((it for it in places if disk_of(it) == disk_of(root)), places[0])
-    place.mkdir(mode=0o700, parents=True, exist_ok=True)
-    if place.stat().st_uid != os.getuid():
-        raise Fault(f"{place} belongs to somebody else: set XDG_CACHE_HOME to a folder of your own")
+    place.parent.mkdir(parents=True, exist_ok=True)
+    with contextlib.suppress(FileExistsError):
+        place.mkdir(mode=0o700)
+    check_own(place)
     return place / hashlib.sha256(os.fsencode(root)).hexdigest()[:16]
+
+
+def check_own(place):
+    """Refuses a place at which somebody else could put libraries that count as proved."""
+    found = os.lstat(place)
+    why = (
+        "is no folder" if not stat.S_ISDIR(found.st_mode)
+        else "belongs to somebody else" if found.st_uid != os.getuid()
+        else "can be written by others" if found.st_mode & (stat.S_IWGRP | stat.S_IWOTH)
+        else None
+    )
+    if why:
+        raise Fault(f"{place} {why}: move it away, or set XDG_CACHE_HOME to a folder of your own")
 
 
 def disk_of(path):

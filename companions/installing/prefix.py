@@ -7,7 +7,7 @@ from dataclasses import dataclass
 from pathlib import Path
 
 from building.crates import Fault
-from building.place import NOTE
+from building.place import NOTE, read_note
 from building.sums import sum_of_file
 
 from .contents import LIBRARY, File
@@ -22,7 +22,10 @@ class Prefix:
 
     @classmethod
     def of(cls, word):
-        path = Path(os.path.abspath(Path(word).expanduser()))
+        try:
+            path = Path(os.path.abspath(Path(word).expanduser()))
+        except RuntimeError as fault:
+            raise Fault(f"{word} is no folder: there is no such user, or none who has a home") from fault
         below = os.environ.get("DESTDIR")
         return cls(path, Path(os.path.abspath(below) + str(path)) if below else path)
 
@@ -32,14 +35,7 @@ class Prefix:
 
     def read(self):
         """What was installed here, or None."""
-        try:
-            return json.loads(self.note.read_text(encoding="utf-8"))
-        except (FileNotFoundError, NotADirectoryError):
-            return None
-        except OSError as fault:
-            raise Fault(f"cannot read {self.note}: {fault.strerror}") from fault
-        except ValueError as fault:
-            raise Fault(f"{self.note} is not as ./install wrote it") from fault
+        return read_note(self.note)
 
 
 @contextlib.contextmanager

@@ -361,11 +361,44 @@ class Places(Case):
         self.assertFalse(self.prefix.parent.exists())
 
     def test_a_note_that_is_none(self):
+        self.installed()
+        prefix = Prefix.of(str(self.prefix))
+        victim = self.folder / "victim"
+        victim.write_text("mine")
+        good = json.loads(prefix.note.read_text())
+        outside = os.path.relpath(victim, self.prefix)
+        sum_of_victim = sum_of_file(victim)
+        bad = [
+            "{", "[]", "{}", "null", "[" * 100_000, "\xff",
+            *(json.dumps({**good, **part}) for part in (
+                {"files": {outside: sum_of_victim}}, {"files": {str(victim): sum_of_victim}}, {"files": []}, {"files": None},
+                {"folders": ["../elsewhere"]}, {"folders": [3]}, {"folders": None}, {"is_proved": "yes"},
+            )),
+        ]
+        for text in bad:
+            prefix.note.write_text(text, encoding="latin-1")
+            for words in (["--uninstall", self.prefix], [self.prefix]):
+                status, printed, told = self.run_install(*words)
+                self.assertEqual((status, printed), (2, ""), text[:100])
+                self.assertEqual(told, f"install: {prefix.note} is not as ./install wrote it, so it does not tell what was installed: remove "
+                                       "that by hand\n")
+        self.assertEqual(victim.read_text(), "mine")
+        ran = self.run_here(self.prefix / "bin" / "evats-causes", given=COMMANDS)
+        self.assertEqual(ran.returncode, 2)
+        self.assertIn(f"{prefix.note} is not as ./install wrote it", ran.stderr)
+        self.assertNotIn("Traceback", ran.stderr)
+
+    def test_a_note_that_cannot_be_read_to_an_end(self):
         prefix = Prefix.of(str(self.prefix))
         prefix.note.parent.mkdir(parents=True)
-        prefix.note.write_text("{")
-        with self.assertRaisesRegex(Fault, "is not as ./install wrote it"):
-            take_away(prefix)
+        os.mkfifo(prefix.note)
+        self.assertEqual(self.run_install("--uninstall", self.prefix)[2], f"install: {prefix.note} is no plain file, so it does not tell what "
+                                                                          "was installed\n")
+
+    def test_a_user_who_is_not_there(self):
+        status, printed, told = self.run_install("~nosuchuser/somewhere")
+        self.assertEqual((status, printed), (2, ""))
+        self.assertEqual(told, "install: ~nosuchuser/somewhere is no folder: there is no such user, or none who has a home\n")
 
     def test_wrong_words(self):
         for words in (["a", "b"], ["--unproved", "--uninstall"], ["--what"]):
