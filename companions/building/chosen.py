@@ -1,4 +1,5 @@
 """Keeps which program was chosen, with how all stood that the choice depends on: `./run` takes it again as long as that is so."""
+import contextlib
 import hashlib
 import subprocess
 import time
@@ -36,9 +37,11 @@ def is_calm(listed, now):
 
 
 def keep(root, chosen, listed):
-    program = chosen.program.relative_to(root)
-    path_of(root).parent.mkdir(exist_ok=True)
-    write_whole(path_of(root), f"{program}\n{chosen.told}\n{chosen.behind or ''}\n{hashlib.sha256(listed).hexdigest()}  -\n")
+    program, total = chosen.program.relative_to(root), hashlib.sha256(listed).hexdigest()
+    # Who may not write here chooses anew each time.
+    with contextlib.suppress(OSError):
+        path_of(root).parent.mkdir(exist_ok=True)
+        write_whole(path_of(root), f"{program}\n{chosen.told}\n{chosen.behind or ''}\n{total}  -\n")
 
 
 def chosen_program(root):

@@ -30,6 +30,15 @@ def say(text):
     print(text, file=sys.stderr, flush=True)
 
 
+@contextlib.contextmanager
+def building():
+    """Tells of what the system refuses to who builds."""
+    try:
+        yield
+    except OSError as fault:
+        raise Fault(f"cannot build {PROGRAM}: {fault.filename}: {fault.strerror}") from fault
+
+
 def plain(root):
     """The plain interpreter, which needs Python alone."""
     told = f"there is no kit of Rattle at {kit.KIT}: this is the plain interpreter of reference/, which is slow; nothing of it is proved"
@@ -54,13 +63,16 @@ def build_quickly(build):
 
 def quick(root):
     """The program that was compiled quickly, which is built first where none stands that was made from the sources as they are."""
-    build = quick_build(root)
+    build, behind = quick_build(root), None
     if not build.is_current():
-        build.program.parent.mkdir(parents=True, exist_ok=True)
-        with locked([build.program.parent], lambda _: say(f"another process is building {PROGRAM}; waiting for it ..")):
-            if not build.is_current():
-                build_quickly(build)
-    behind = well.begin(root)
+        with building():
+            build.program.parent.mkdir(parents=True, exist_ok=True)
+            with locked([build.program.parent], lambda _: say(f"another process is building {PROGRAM}; waiting for it ..")):
+                if not build.is_current():
+                    build_quickly(build)
+    # Who may not write here has no better one made.
+    with contextlib.suppress(OSError):
+        behind = well.begin(root)
     return Choice(build.program, QUICK if behind else f"{FAILED}, as {well.failure(root)} tells", behind)
 
 
@@ -87,7 +99,7 @@ def unproved_program(root=ROOT):
     """The program without its proofs, compiled well. It is waited for where none stands that was made from the sources as they are."""
     build = unproved_build(root)
     if not build.is_current():
-        with well.alone(root, lambda _: say(f"another process is compiling {PROGRAM}; waiting for it ..")):
+        with building(), well.alone(root, lambda _: say(f"another process is compiling {PROGRAM}; waiting for it ..")):
             if not build.is_current():
                 say(f"building {PROGRAM} without its proofs, which takes some minutes ..")
                 well.make_here(build)

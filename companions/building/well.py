@@ -26,7 +26,7 @@ START = Path(__file__).resolve().parents[1] / "start.py"
 # What a process that is not waited for yields to all others.
 NICE = 10
 # How often it looks whether the sources are still the same.
-SECONDS = 5
+SECONDS = 2
 TEXT, SOURCES = "whole.ll", "sources"
 
 

@@ -53,13 +53,15 @@ class Telling(unittest.TestCase):
         with tempfile.TemporaryDirectory() as folder:
             Path(folder, "crates.txt").write_text("low:\n")
             Path(folder, "log").write_text("")
+            Path(folder, "at_work").touch()
             script = (
-                "sh -c 'sleep 2; :' rattle check --crate-name low & "
+                "sh -c 'while [ -e at_work ]; do sleep 0.1; done' rattle check --crate-name low & "
                 f"{sys.executable} -c 'import sys; from pathlib import Path; from gate.__main__ import watch; import os; "
-                'watch(Path("log"), os.getppid(), lambda line: print(line, flush=True), 0.2)\' & sleep 1; kill $!; wait'
+                'watch(Path("log"), os.getppid(), lambda line: print(line, flush=True), 0.2)\' > said & '
+                "until [ -s said ]; do sleep 0.1; done; kill $!; rm at_work; cat said"
             )
             ran = subprocess.run(
-                ["sh", "-c", script], cwd=folder, capture_output=True, text=True, check=False,
+                ["sh", "-c", script], cwd=folder, capture_output=True, text=True, check=False, timeout=60,
                 env={**os.environ, "PYTHONPATH": str(COMPANIONS)},
             )
         self.assertIn(said, ran.stdout.splitlines(), ran.stderr)
