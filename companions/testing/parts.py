@@ -52,17 +52,22 @@ def sessions(tested, names=()):
     yield Job(" ".join(["sessions", *names]), (*PYTHON, "sessions", "--program", tested.program, *names), counting.of_sessions)
 
 
+def longest_first(paths):
+    """The files of tests by their lengths, since those that take long are to begin early."""
+    return sorted(paths, key=lambda path: (-path.stat().st_size, path))
+
+
 def companions(tested, folder=COMPANIONS):
     """The unit tests of the companions below a folder. Those that talk with a program talk with this one."""
     variables = {} if tested.is_plain else {"EVATS_PROGRAM": os.path.abspath(tested.program)}
-    for path in sorted(folder.rglob("test_*.py")):
+    for path in longest_first(folder.rglob("test_*.py")):
         name = ".".join(path.relative_to(COMPANIONS).with_suffix("").parts)
         yield Job(name, (*PYTHON, "unittest", "-q", name), counting.of_units, variables=variables)
 
 
 def reference(tested):
     """The unit tests of the plain interpreter and of the tools that compare."""
-    for path in sorted(REFERENCE.glob("test_*.py")):
+    for path in longest_first(REFERENCE.glob("test_*.py")):
         words = (sys.executable, "-I", "-m", "unittest", "discover", "-q", "-s", REFERENCE, "-t", REFERENCE, "-p", path.name)
         yield Job(f"reference.{path.stem}", words, counting.of_units)
 
@@ -74,7 +79,8 @@ def random(tested):
         yield Job(f"random {name}", words, counting.of_comparison)
 
 
-JOBS = {Part.SESSIONS: sessions, Part.COMPANIONS: companions, Part.REFERENCE: reference, Part.RANDOM: random}
+# In the order in which they begin.
+JOBS = {Part.RANDOM: random, Part.SESSIONS: sessions, Part.COMPANIONS: companions, Part.REFERENCE: reference}
 
 
 def part_of(word):
@@ -91,7 +97,8 @@ def folder_of(word):
 def jobs_of(tested, words):
     """The commands that these words ask for; without words all. What is no part and no folder of companions is a name that
     `tests/run` knows."""
-    parts = [part for part in Part if part in map(part_of, words)] or ([] if words else list(Part))
+    named = set(map(part_of, words))
+    parts = [part for part in JOBS if part in named or not words]
     folders = [folder_of(word) for word in words if not part_of(word) and folder_of(word)]
     names = [word for word in words if not part_of(word) and not folder_of(word)]
     found = [job for part in parts for job in JOBS[part](tested)]

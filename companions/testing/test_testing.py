@@ -60,7 +60,7 @@ class Chosen(unittest.TestCase):
 
     def test_parts_folders_and_names(self):
         self.assertEqual(self.names("random"), ["random alone", "random several"])
-        self.assertEqual(self.names("companions/gate/")[:1], ["gate.test_gate"])
+        self.assertIn("gate.test_gate", self.names("companions/gate/"))
         self.assertEqual(self.names("tests/undo", "mint", "README.md"), ["sessions tests/undo mint README.md"])
         self.assertEqual(self.names("companions/causes", "tests/undo"), ["causes.test_causes", "sessions tests/undo"])
         (job,) = jobs_of(PROGRAM, ["tests/undo"])

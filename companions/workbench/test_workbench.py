@@ -418,7 +418,7 @@ class Tools(unittest.TestCase):
 
     def said(self, installer=None):
         with tempfile.TemporaryDirectory() as folder:
-            for name in ("bash", "env", "dirname", "mktemp", "timeout", "tail", "rm", "sh"):
+            for name in ("bash", "env", "dirname", "readlink", "mktemp", "timeout", "tail", "rm", "sh"):
                 os.symlink(shutil.which(name), Path(folder, name))
             os.symlink(sys.executable, Path(folder, "python3"))
             for name, told in {"id": "0", **({"apt-get": installer} if installer else {})}.items():
