@@ -50,7 +50,8 @@ def chosen_program(root):
         begun, before = time.time(), listing(root)
         chosen = choice(root)
         if before == listing(root):
-            if is_calm(before, begun):
+            # A process whose number is not known yet cannot be looked after.
+            if is_calm(before, begun) and chosen.behind != 0:
                 keep(root, chosen, before)
             break
         time.sleep(FINE)

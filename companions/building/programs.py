@@ -13,8 +13,8 @@ from .unproved import Workshop, compile_quickly, read_module
 
 NOTHING_PROVED = f"{PROGRAM} without its proofs: nothing of it is proved"
 NOT_PROVED = f"{PROGRAM}: not proved here; ./prove proves it"
-QUICK = f"{NOT_PROVED}. It is slow: one that is compiled well takes its place in a few minutes"
-FAILED = f"{NOT_PROVED}. It is slow: it could not be compiled well"
+SLOW = f"{NOT_PROVED}. It is slow"
+QUICK = f"{SLOW}: one that is compiled well takes its place in a few minutes"
 
 
 @dataclass(frozen=True)
@@ -62,7 +62,8 @@ def build_quickly(build):
 
 
 def quick(root):
-    """The program that was compiled quickly, which is built first where none stands that was made from the sources as they are."""
+    """The program that was compiled quickly, which is built first where none stands that was made from the sources as they are; None
+    where the one that is compiled well stands now."""
     build, behind = quick_build(root), None
     if not build.is_current():
         with building():
@@ -73,7 +74,17 @@ def quick(root):
     # Who may not write here has no better one made.
     with contextlib.suppress(OSError):
         behind = well.begin(root)
-    return Choice(build.program, QUICK if behind else f"{FAILED}, as {well.failure(root)} tells", behind)
+    if behind is None and unproved_build(root).is_current():
+        return None
+    return Choice(build.program, told_of_quick(root, behind), behind)
+
+
+def told_of_quick(root, behind):
+    """What is told of a program that was compiled quickly, behind which a process makes a better one, or none does."""
+    if behind is not None:
+        return QUICK
+    failure = well.failure(root)
+    return f"{SLOW}: it could not be compiled well, as {failure} tells" if failure.exists() else SLOW
 
 
 def standing(root):
@@ -92,7 +103,10 @@ def is_built(root=ROOT):
 
 def choice(root=ROOT):
     """The program to run at once: the proved one, the unproved one, or one that stands in until it is there."""
-    return (standing(root) or quick(root)) if kit.is_there() else plain(root)
+    if not kit.is_there():
+        return plain(root)
+    # Behind one that was compiled quickly a better one may have come meanwhile.
+    return standing(root) or quick(root) or standing(root)
 
 
 def unproved_program(root=ROOT):

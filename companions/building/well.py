@@ -85,7 +85,7 @@ def sign(lock, number):
 
 
 def number_in(lock):
-    """The process that is at work, as it has written it down; 0 where it has not yet."""
+    """The process that is at work, as it was written down; 0 where it was not yet."""
     lock.seek(0)
     return int(lock.read() or 0)
 
@@ -97,12 +97,13 @@ def hand_over(module, sources, folder):
 
 
 def begin(root, prepare=lambda folder: None):
-    """Starts a process that does the work, where none does it yet, nor failed: the number of the one that does it, or None.
-    `prepare` may put into its folder what is handed over."""
+    """Starts a process that does the work, where none does it yet, has done it, or failed: the number of the one that does it, or
+    None. `prepare` may put into its folder what is handed over."""
+    build = unproved_build(root)
     with open_lock(root) as lock:
         if not take_at_once(lock.fileno()):
-            return number_in(lock) or None
-        if has_failed(root, unproved_build(root).sources()):
+            return number_in(lock)
+        if build.is_current() or has_failed(root, build.sources()):
             return None
         shutil.rmtree(folder_of(root), ignore_errors=True)
         folder_of(root).mkdir()
@@ -133,6 +134,7 @@ def make(build, folder, heed=lambda: None):
     if not is_made_of(build, sources):
         raise Changed
     build.put(program, sources)
+    failure(build.root).unlink(missing_ok=True)
 
 
 def make_here(build):
