@@ -10,6 +10,7 @@ import os
 import signal
 import sys
 
+from . import kit
 from .builds import proved_build
 from .chosen import chosen_program
 from .crates import PROGRAM, ROOT, Fault
@@ -33,6 +34,8 @@ def check_words(words):
 
 def proved_choice(root):
     """The proved program, or none."""
+    if not kit.is_there():
+        raise Fault(f"there is no kit of Rattle at {kit.KIT}, so nothing is proved here")
     if not proved_build(root).is_current():
         raise Fault(f"{PROGRAM} is not proved here, or its sources have changed since: ./prove proves and builds it")
     return Choice(proved_build(root).program)
