@@ -59,8 +59,9 @@ def meanings(text):
 
 
 def is_of(cell, word):
-    """Whether a cell names a command, as a word by itself or with what it takes."""
-    return any(spelled.split()[:1] == [word] for spelled in re.findall(r"`([^`]*)`", cell))
+    """Whether a cell speaks of a command: names it, as a word by itself or with what it takes, or all but others."""
+    is_named = any(spelled.split()[:1] == [word] for spelled in re.findall(r"`([^`]*)`", cell))
+    return is_named != cell.startswith("all but ")
 
 
 def alone(cell):

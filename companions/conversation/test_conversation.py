@@ -405,7 +405,11 @@ class Words(unittest.TestCase):
             self.assertTrue(told_of(read_documents(), word)[0], word)
         wants, replies, refused = told_of(read_documents(), "undo")
         self.assertEqual(told_of(read_documents(), "log")[0], ["just these words"])
-        self.assertEqual((len(wants), len(replies), [each.code for each in refused]), (1, 1, ["B12", "B13", "B15", "B22"]))
+        self.assertEqual((len(wants), len(replies), [each.code for each in refused]), (1, 1, ["B12", "B13", "B15", "B20", "B22"]))
+
+    def test_what_is_so_for_all_commands_but_one(self):
+        codes = {word: [each.code for each in told_of(read_documents(), word)[2]] for word in ("show", "exchange")}
+        self.assertEqual(codes, {"show": ["B20"], "exchange": ["B12", "B13", "B18", "B22"]})
 
     def test_help_leaves_out_what_is_so_for_another_command(self):
         usages = usages_in(help_of(PROGRAM))

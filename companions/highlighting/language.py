@@ -48,7 +48,7 @@ def operators():
 
 @functools.cache
 def escapes():
-    """What may stand behind a backslash in a text."""
+    """The characters that may follow a backslash in a text."""
     return {character(each) for each in re.findall(r"b'(\\?.)'(?= =>| \|)", body("escape"))}
 
 

@@ -37,12 +37,12 @@ def length_of_reply(command, lines):
 
 def command_of(commands, replies, place):
     """The command that the reply line in this place belongs to, as far as the replies fit the commands."""
-    lines, behind = lines_of(replies.decode(errors="backslashreplace")), 0
+    lines, end = lines_of(replies.decode(errors="backslashreplace")), 0
     for command in commands_of(lines_of(commands.decode(errors="backslashreplace"))):
-        behind += length_of_reply(command, lines[behind:])
-        if place < behind:
+        end += length_of_reply(command, lines[end:])
+        if place < end:
             return f"to `{command.line}`"
-    return "behind the last command"
+    return "after the last command"
 
 
 def shown(line, at):

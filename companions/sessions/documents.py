@@ -36,7 +36,7 @@ def session_of(name, text, found):
 
 
 def sessions_of(name, text):
-    """The sessions that a document shows, each behind `It prints:` with its replies."""
+    """The sessions that a document shows, each with the replies that follow `It prints:`."""
     cases = [session_of(name, text, found) for found in SESSION.finditer(text)]
     begun = len(BEGUN.findall(text))
     return cases if begun == len(cases) else [*cases, Broken(name, f"{begun} sessions, and {len(cases)} with replies")]

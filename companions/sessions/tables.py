@@ -1,7 +1,7 @@
 """Tables of texts, each with the answer that is wanted of it.
 
 A row is a text, ` => ` and its answer. Each row has a run of its own, in which the text and the answer stand in the table's
-head in the place of `..`. A head is a session: commands behind `> `, each with its replies. A text that is refused ends it.
+head in the place of `..`. A head is a session: each command after `> `, with its replies. A text that is refused ends it.
 """
 import re
 from dataclasses import dataclass

@@ -70,7 +70,7 @@ class Programs(Folder):
 
     def test_a_surplus_reply_fails(self):
         told = self.fails("cat; echo four")
-        self.assertIn("line 4 of the replies, behind the last command\n    wanted: nothing\n    got:    four", told)
+        self.assertIn("line 4 of the replies, after the last command\n    wanted: nothing\n    got:    four", told)
 
     def test_a_missing_line_feed_fails(self):
         self.assertIn("got:    three (and no line feed)", self.fails("cat > /dev/null; printf 'one\\ntwo\\nthree'"))
