@@ -1,9 +1,13 @@
 """Looks at how sessions and tables are read and compared. The programs that are run here are small ones of the shell."""
 import contextlib
 import io
+import re
 import tempfile
 import unittest
 from pathlib import Path
+
+from conversation.language import meanings, read_documents
+from highlighting.language import command_words
 
 from . import documents, tables
 from .__main__ import main
@@ -12,6 +16,8 @@ from .differences import command_of, differences
 from .finding import DOCUMENTS, ROOT, cases_of
 from .running import Ran, run
 
+# Refusals for want of memory or of threads, and of a full journal: no commands alone bring them about.
+WITHOUT_A_CASE = {"B8", "B20", "L7", "S7"}
 # A session whose replies are its commands: `cat` answers it rightly.
 COMMANDS = "one\ntwo\nthree\n"
 
@@ -281,6 +287,14 @@ class Documents(unittest.TestCase):
 class Repository(unittest.TestCase):
     def test_each_file_of_a_test_is_one(self):
         self.assertFalse([case for case in cases_of([]) if isinstance(case, Broken)])
+
+    def test_each_refusal_and_each_command_comes_in_a_case(self):
+        cases = cases_of([])
+        told = {each.code for each in meanings(read_documents()) if each.of != "library"}
+        replies = "".join(case.replies.decode(errors="replace") for case in cases)
+        self.assertEqual(told - set(re.findall(r"^no ([A-Z]\d+) ", replies, re.MULTILINE)), WITHOUT_A_CASE)
+        commands = "".join(case.commands.decode(errors="replace") for case in cases)
+        self.assertEqual(command_words() - set(re.findall(r"^[ \t]*([a-z-]+)", commands, re.MULTILINE)), set())
 
     def test_a_stem_is_found(self):
         self.assertEqual([case.name for case in cases_of(["mint"])], ["examples/mint"])
