@@ -9,6 +9,7 @@ from pathlib import Path
 
 from running import SECONDS, Ended, bytes_of, stop, text
 
+STACK = 1 << 26
 SOURCE = Path(__file__).resolve().parent / "refusing.c"
 
 
@@ -54,13 +55,18 @@ class Text:
         return os.pread(self.file, os.fstat(self.file).st_size, 0)
 
 
+def take_stack():
+    """What programs are given for their stacks from now on. The thread of one that waits is its first, since a copy of a program
+    has but one."""
+    _, most = resource.getrlimit(resource.RLIMIT_STACK)
+    resource.setrlimit(resource.RLIMIT_STACK, (STACK if most < 0 else min(STACK, most), most))
+
+
 class Waiting:
     """A program that waits before a command of its session, and goes on from there in copies of itself, each with an input of its
     own. So what stands before the command is answered once."""
     ASKED, TOLD = struct.Struct("l"), struct.Struct("i")
     COPY = -1
-    # What the program is given for its stack. Its thread is the first one here, since a copy of a program has but one.
-    STACK = 1 << 26
 
     def __init__(self, words, refuser, commands):
         self.words, self.refuser, self.at, self.process = words, refuser, 0, None
@@ -81,18 +87,15 @@ class Waiting:
         self.asker.settimeout(SECONDS)
         paths = {"REFUSING_INPUT": self.input.path, "REFUSING_OUTPUT": self.output.path, "REFUSING_ERRORS": self.errors.path}
         self.refuser.watch(0, 0)
+        take_stack()
         with its, open(self.session.path, "rb") as session:
             self.process = subprocess.Popen(
                 self.words, stdin=session, stdout=subprocess.DEVNULL, stderr=subprocess.DEVNULL, start_new_session=True,
                 env={**self.refuser.environment, **paths, "REFUSING_ASKER": str(its.fileno())},
-                pass_fds=[its.fileno(), self.input.file, self.output.file, self.errors.file], preexec_fn=self.take_stack)
+                pass_fds=[its.fileno(), self.input.file, self.output.file, self.errors.file])
         self.told()
         if self.at:
             self.ask(self.at)
-
-    def take_stack(self):
-        _, most = resource.getrlimit(resource.RLIMIT_STACK)
-        resource.setrlimit(resource.RLIMIT_STACK, (self.STACK if most < 0 else min(self.STACK, most), most))
 
     def end(self):
         if self.process:

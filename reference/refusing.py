@@ -185,6 +185,15 @@ class WorkTrial:
         return FOLLOWED
 
 
+@dataclass(frozen=True)
+class Limits:
+    """How much is tried with a program: how many requests of a command at most, chosen by chance, and until when."""
+    program: str
+    seed: int
+    most: float
+    end: float
+
+
 @dataclass
 class Found:
     """How often memory was refused, by how the commands ended, and what may not be."""
@@ -229,18 +238,18 @@ def kind_of(trial, number, is_on):
         return FAILED, f"request {number} {'and all behind it' if is_on else 'alone'} refused for {brief(trial.command)}{differs}"
 
 
-def try_command(trial, name, options, found):
+def try_command(trial, name, limits, found):
     """Refuses memory for a command, one request alone and then with all behind it, as long as there is time."""
     try:
         asked = trial.asked()
     except Differs as differs:
         found.faults.append(f"{name}: {brief(trial.command)}{differs}")
         return
-    requests = chosen(asked, options.most, f"{options.seed} {name}")
+    requests = chosen(asked, limits.most, f"{limits.seed} {name}")
     found.counts[LEFT_OUT] += 2 * (asked - len(requests))
     for is_on in (False, True):
         for number in requests:
-            is_late = time.monotonic() > options.end
+            is_late = time.monotonic() > limits.end
             kind, fault = (LEFT_OUT, "") if is_late else kind_of(trial, number, is_on)
             found.counts[kind] += kind is not None
             found.faults += [f"{name}: {fault}"] if fault else []
@@ -256,17 +265,17 @@ def begin(library):
     refuser = Refuser(library)
 
 
-def try_session(options, case):
+def try_session(limits, case):
     """What was found in a session."""
     found, earlier = Found(), []
     if isinstance(case, Broken):
         found.faults.append(f"{case.name}: {case.why}")
         return found
     commands = commands_of(case.commands)
-    with Waiting([options.program, *case.arguments], refuser, commands) as waiting:
+    with Waiting([limits.program, *case.arguments], refuser, commands) as waiting:
         for place, command in enumerate(commands, 1):
-            trial = time.monotonic() < options.end and trial_of(waiting, earlier, command)
+            trial = time.monotonic() < limits.end and trial_of(waiting, earlier, command)
             earlier.append(command)
             if trial:
-                try_command(trial, f"{case.name}, command {place}", options, found)
+                try_command(trial, f"{case.name}, command {place}", limits, found)
     return found

@@ -8,11 +8,12 @@ from pathlib import Path
 from unittest.mock import patch
 
 import refused
+import texts
 from refused import Refuser, Waiting, compiled
 from refusing import chosen, shifted
 from running import run
 from test_running import FAKE, told
-from texts import commands_of
+from texts import commands_of, sessions_below
 
 SESSION, SHORTEST = "vat a () 1\ndef x := 2\nrun 3\n", "vat a () 0\n"
 # What is told of a fake that has a fault where it is refused memory.
@@ -98,6 +99,13 @@ class Refused(unittest.TestCase):
         self.assertEqual([*chosen(5, 5, 1)], [1, 2, 3, 4, 5])
         self.assertEqual(len(set(chosen(1_000, 7, 1)) & set(range(1, 1_001))), 7)
         self.assertRegex(self.refuse("--most", "2", session=SHORTEST)[1], "^left out: 2\n(.|\n)*\n4 refusals, 0 failed\n$")
+
+    def test_sessions_that_were_written_by_hand_are_tried_whole(self):
+        names = [str(self.folder / "few.evats"), *sessions_below("tests/random")[:50]]
+        with patch.object(texts, "sessions_below", lambda folder: names if folder == "tests" else []):
+            is_failed, said = self.refuse("--all", "--most", "1", "--seconds", "0")
+        self.assertFalse(is_failed)
+        self.assertRegex(said, "^14 refusals in 1 sessions that were written by hand: .*\n(.|\n)*\n14 refusals, 0 failed\n$")
 
     def test_what_the_library_refuses(self):
         source, program, refuser = self.folder / "program.c", self.folder / "program", Refuser(self.library)
