@@ -35,14 +35,20 @@ WAITS = {"hangs 2": "it was stopped after 1 seconds", "hangs end": "it was stopp
 MISSES = {"omits end": r"got:    \(nothing\)", "cuts end": r"\(and no line feed\)", "stops 2": r"got:    \(nothing\)"}
 
 
-def told(script, *words, fault="none end"):
-    """Whether a script fails, and what it prints."""
-    said = io.StringIO()
-    with patch.dict(os.environ, FAULT=fault), patch("sys.argv", [*script, *words]), contextlib.redirect_stdout(said):
+def said_by(script, *words, fault="none end"):
+    """Whether a script fails, what it prints, and what it says as errors."""
+    said, errors = io.StringIO(), io.StringIO()
+    with patch.dict(os.environ, FAULT=fault), patch("sys.argv", [*script, *words]), \
+            contextlib.redirect_stdout(said), contextlib.redirect_stderr(errors):
         try:
             runpy.run_path(str(HERE / script[0]), run_name="__main__")
         except SystemExit as ended:
-            return bool(ended.code), said.getvalue()
+            return bool(ended.code), said.getvalue(), errors.getvalue()
+
+
+def told(script, *words, fault="none end"):
+    """Whether a script fails, and what it prints."""
+    return said_by(script, *words, fault=fault)[:2]
 
 
 class Scripts(unittest.TestCase):
@@ -96,9 +102,9 @@ class Scripts(unittest.TestCase):
             self.assertRegex(ended.stdout, r"\n([1-9][0-9]*) sessions compared, \1 differ\n$")
 
     def test_what_is_under_way_is_told(self):
-        with patch.object(running, "SHORTENING", 0), contextlib.redirect_stderr(io.StringIO()) as said:
-            told(COMPARE, "--seconds", "0.1", FAKE, fault="complains 2")
-        self.assertIn("a session differs; it is made short, for 0 seconds at most ..\n", said.getvalue())
+        with patch.object(running, "SHORTENING", 0):
+            errors = said_by(COMPARE, "--seconds", "0.1", FAKE, fault="complains 2")[2]
+        self.assertIn("a session differs; it is made short, for 0 seconds at most ..\n", errors)
 
     @patch.object(running, "SECONDS", 5)
     def test_what_a_program_had_said_is_told(self):

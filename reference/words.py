@@ -69,13 +69,17 @@ def constant(name, source):
     return re.search(rf'const {name}: &str =\s*"(?:\\\n)?(.*?)";', source, re.DOTALL)[1].replace('\\"', '"')
 
 
+def source_text():
+    return SOURCE.read_text(encoding="utf-8")
+
+
 def version():
-    return f"evats {constant('VERSION', SOURCE.read_text())}\n"
+    return f"evats {constant('VERSION', source_text())}\n"
 
 
 def help_text():
     """What the program's help says."""
-    source = SOURCE.read_text()
+    source = source_text()
     about = re.search(r'\.about\("(.*?)"\)', source)[1]
     file = re.search(r'value_name\("FILE"\)\.help\(\s*"(.*?)"', source)[1]
     budget, workers = re.findall(r'"(The most [^"]*)"', source)
