@@ -101,7 +101,7 @@ class Refused(unittest.TestCase):
         self.assertRegex(self.refuse("--most", "2", session=SHORTEST)[1], "^left out: 2\n(.|\n)*\n4 refusals, 0 failed\n$")
 
     def test_sessions_that_were_written_by_hand_are_tried_whole(self):
-        names = [str(self.folder / "few.evats"), *sessions_below("tests/random")[:50]]
+        names = [str(self.folder / "few.evats"), *sessions_below("tests/random"), *sessions_below("tests/questions")]
         with patch.object(texts, "sessions_below", lambda folder: names if folder == "tests" else []):
             is_failed, said = self.refuse("--all", "--most", "1", "--seconds", "0")
         self.assertFalse(is_failed)
