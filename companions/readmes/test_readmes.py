@@ -1,4 +1,4 @@
-"""Looks whether what the READMEs of the crates and docs/MAP.md speak of is there: files, names, and functions as quoted."""
+"""Looks whether what the documents speak of is there: calls by their paths, and, in those about the crates, files, names, and functions as quoted."""
 import re
 import tempfile
 import unittest
@@ -6,6 +6,7 @@ from pathlib import Path
 
 from building.crates import ROOT, crate_of
 
+from .calls import lost_calls, paths_of
 from .house import TESTS, faces_in, families_in, not_lowest_first
 from .naming import Place, lost_quotes, names_in, paths_in
 
@@ -17,6 +18,11 @@ def documents():
     """The documents about the crates, each with the crate whose README it is, if it is one."""
     found = {file: file.parent for file in sorted(CRATES.glob("*/README.md"))}
     return found | {CRATES / "README.md": None, ROOT / "docs" / "MAP.md": None}
+
+
+def all_documents():
+    """The documents about the crates, and those of the repository and of its folders."""
+    return {*documents(), *ROOT.glob("*.md"), *ROOT.glob("*/README.md"), *ROOT.glob("docs/*.md")}
 
 
 def words_of_sources():
@@ -42,6 +48,12 @@ class Told(unittest.TestCase):
         for file in documents():
             with self.subTest(file):
                 self.assertEqual(set(), names_in(file.read_text(encoding="utf-8")) - words)
+
+    def test_calls_are_there(self):
+        there = paths_of(CRATES)
+        for file in sorted(all_documents()):
+            with self.subTest(file):
+                self.assertEqual([], lost_calls(file.read_text(encoding="utf-8"), there))
 
     def test_functions_stand_as_they_are_quoted(self):
         for file, crate in documents().items():
@@ -104,6 +116,15 @@ class Finding(unittest.TestCase):
 
     def test_names_are_those_in_code(self):
         self.assertEqual({"Book", "undo", "lost"}, names_in("Book `Book::undo`, `lost`\n\n```\n`fence`\n```\n`two words`\n"))
+
+    def test_a_call_that_is_not_there_is_told(self):
+        self.write("crates/low/src/lib.rt", "pub mod tray;\n\npub use tray::Tray;\n")
+        self.write("crates/low/src/tray.rt", "pub struct Tray {\n    pub size: u8,\n}\n\nimpl Tray {\n    pub fn fill(&self) {}\n}\n\nfn fill_all() {}\n")
+        there = paths_of(self.root / "crates")
+        found = "`low::tray::Tray::fill`, `low::Tray`, `Tray::size`, `tray::fill_all`, `Arc::get_mut`, `low::tray`\n"
+        self.assertEqual([], lost_calls(found, there))
+        lost = ["Tray::empty", "low::Tray::size_of", "low::tray::Lid", "tray::Lid"]
+        self.assertEqual(lost, lost_calls(", ".join(f"`{path}`" for path in lost), there))
 
     def test_a_function_that_changed_is_told(self):
         self.write("crates/low/src/lib.rt", "impl Low {\n    fn low() {\n        1\n\n        2\n    }\n}\n")
