@@ -61,8 +61,8 @@ def main(words, root=ROOT):
             check_words(words)
         with interruptions():
             chosen = proved_choice(root) if has_to_be_proved else chosen_program(root)
-        if chosen.told:
-            say(chosen.told)
+        if chosen.line:
+            say(chosen.line)
         become(chosen.program, words)
     except (Fault, OSError) as fault:
         say(f"run: {fault}")

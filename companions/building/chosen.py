@@ -41,7 +41,7 @@ def keep(root, chosen, listed):
     # Who may not write here chooses anew each time.
     with contextlib.suppress(OSError):
         path_of(root).parent.mkdir(exist_ok=True)
-        write_whole(path_of(root), f"{program}\n{chosen.told}\n{chosen.behind or ''}\n{total}  -\n")
+        write_whole(path_of(root), f"{program}\n{chosen.line}\n{chosen.behind or ''}\n{total}  -\n")
 
 
 def chosen_program(root):

@@ -12,7 +12,7 @@ from .place import installed
 from .unproved import Workshop, compile_quickly, read_module
 
 NOTHING_PROVED = f"{PROGRAM} without its proofs: nothing of it is proved"
-NOT_PROVED = f"{PROGRAM}: not proved here; ./prove proves it"
+NOT_PROVED = "not proved here; ./prove proves it"
 SLOW = f"{NOT_PROVED}. It is slow"
 QUICK = f"{SLOW}: one that is compiled well takes its place in a few minutes"
 
@@ -24,6 +24,11 @@ class Choice:
     program: Path
     told: str = ""
     behind: int | None = None
+
+    @property
+    def line(self):
+        """What is told of it before it runs; nothing of one that is proved."""
+        return self.told and f"{PROGRAM}: {self.told}"
 
 
 def say(text):
