@@ -67,18 +67,22 @@ class Tests:
         """How far they are, in a line."""
         names = [work.job.name for work in self.at_work]
         names = [*names[:MOST_NAMES], *([".."] if len(names) > MOST_NAMES else [])]
-        return f"{self.count} so far; at work: {', '.join(names)}; {len(self.waiting)} wait"
+        waiting = f"; {len(self.waiting)} wait" if self.waiting else ""
+        return f"{self.count} so far; at work: {', '.join(names)}{waiting}"
 
 
 def run_all(jobs, lanes, folder, out):
     """Runs jobs, so many at a time, and gives what was counted."""
     tests = Tests(list(jobs), folder, Display(out), [])
     with ending() as processes:
-        while tests.waiting or tests.at_work:
-            while tests.waiting and len(tests.at_work) < lanes:
-                tests.begin(processes)
-            tests.display.show(tests.line())
-            time.sleep(PAUSE)
-            for work in [work for work in tests.at_work if work.has_ended()]:
-                tests.take(work)
+        try:
+            while tests.waiting or tests.at_work:
+                while tests.waiting and len(tests.at_work) < lanes:
+                    tests.begin(processes)
+                tests.display.show(tests.line())
+                time.sleep(PAUSE)
+                for work in [work for work in tests.at_work if work.has_ended()]:
+                    tests.take(work)
+        finally:
+            tests.display.clear()
     return tests.count
