@@ -1,8 +1,8 @@
 """A person at the page, for tests: clicks and presses what is there, and waits for what is to be seen."""
+import importlib
 import time
 
 from .browser import SECONDS, module
-
 
 # What an element says, where it is to be seen.
 SAID = """const node = document.querySelector(arguments[0]);
@@ -52,7 +52,14 @@ class Visitor:
         return self.sees(f"the button {text}", script, text)
 
     def presses(self, text):
-        self.button(text).click()
+        """Clicks the button that says this; another one that says it, where the page is drawn anew in between."""
+        stale, limit = importlib.import_module("selenium.common.exceptions").StaleElementReferenceException, time.monotonic() + SECONDS
+        while True:
+            try:
+                return self.button(text).click()
+            except stale:
+                if time.monotonic() > limit:
+                    raise
 
     def types(self, line):
         """Types a line in the command line, and waits for the row of its reply."""
