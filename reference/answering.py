@@ -1,6 +1,7 @@
 """A run: commands are answered as the program answers them, and the run ends as one of the program does."""
 import contextlib
 import os
+import traceback
 
 from book import Book
 from commands import Engine
@@ -66,4 +67,10 @@ def run(words):
 def main(words):
     """Ends this process with the exit status of a run. Nothing waits to be written then, and nobody needs the memory back that
     the world has."""
-    os._exit(run(words))
+    try:
+        status = run(words)
+    except Exception:
+        # The interpreter itself is at fault. No command was refused for that.
+        traceback.print_exc()
+        status = FAILED
+    os._exit(status)

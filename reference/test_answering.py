@@ -104,6 +104,12 @@ class Ends(unittest.TestCase):
                 conversation.process.send_signal(sent)
                 self.assertEqual(conversation.end(), (-sent, "", ""))
 
+    def test_a_fault_of_the_interpreter_is_no_refusal(self):
+        ended = running.run([sys.executable, "-c", f"import sys; sys.path.insert(0, {str(HERE)!r}); "
+                             "import answering; answering.Engine = None; answering.main([])"], "step\n")
+        self.assertEqual((ended.status, ended.out), (2, ""))
+        self.assertIn("TypeError", ended.err)
+
     def test_where_errors_cannot_be_written_the_status_tells_them(self):
         words = ["/bin/sh", "-c", 'exec "$0" "$@" --nonsense 2> /dev/full', *ANSWER]
         self.assertEqual(running.run(words), (2, "", ""))
