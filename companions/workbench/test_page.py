@@ -130,6 +130,20 @@ class Sessions(Page):
         visitor.presses("Have its turn: turn e5.m0")
         visitor.reads("#transcript", "ok e8 value <e8.o0>")
 
+    def test_texts_of_any_length_and_kind_are_shown(self):
+        programs = ['var t := "`"; while (t.size() < 30000) { t := t + t }; t', '"``e1`undo e1`<b>`"',
+                    'var t := "e1 "; while (t.size() < 30000) { t := t + t }; t']
+        visitor = self.visit("vat a () 0\nstep")
+        for text in programs:
+            visitor.types(f"ask a {text}")
+            visitor.types("step")
+        shown = visitor.run("""return [...document.querySelectorAll("#transcript .reply > div")].map((node) =>
+            [...node.childNodes].filter((child) => child.localName !== "small").map((child) => child.textContent).join(""))""")
+        values = ["`" * 32_768, "``e1`undo e1`<b>`", "e1 " * 16_384]
+        self.assertEqual([f'ok e{place} value "{value}"' in shown for place, value in zip((4, 6, 8), values)], [True] * 3)
+        visitor.clicks("e4")
+        visitor.reads("#details", "`" * 1_000)
+
     def test_what_is_refused_can_be_mended_in_its_window(self):
         visitor = self.visit("vat a () 0\nstep")
         visitor.presses("Ask a vat…")

@@ -1,6 +1,6 @@
 // The transcript, and the line in which commands are typed: with history, completion, and further lines.
 
-import { byId, linked, make, plural } from "./elements.js";
+import { byId, linked, make, plural, withLinks } from "./elements.js";
 import { read } from "./server.js";
 
 const DELIMITER = /[ \t([{,;\n]/;
@@ -10,12 +10,12 @@ const LONGEST = 30, MOST_WORDS = 60;
 function rowNode(row, redo) {
   const [line = "", ...script] = row.lines, kind = row.code ? " refused" : "", count = row.undone.length;
   const did = (reply) => row.did[/^ok (e\d+)/.exec(reply)?.[1]];
-  const replies = row.reply.map((each) => make("div", {}, linked(each), did(each) && make("small", {}, linked(did(each)))));
+  const replies = row.reply.map((each) => make("div", {}, withLinks(each), did(each) && make("small", {}, linked(did(each)))));
   const reply = make("div", { class: `reply${kind}` }, replies);
   // What stands below a line that is told stands there exactly.
   const told = row.told.map((each) => make("div", { class: each.startsWith("  ") ? "exact" : null }, linked(each)));
   return make("div", { class: "row" },
-    line && make("div", { class: "given" }, make("b", {}, "> "), linked(line), script.length > 0 && scriptNode(script)),
+    line && make("div", { class: "given" }, make("b", {}, "> "), withLinks(line), script.length > 0 && scriptNode(script)),
     replies.length > LONGEST ? make("details", { open: true }, make("summary", {}, plural(replies.length, "line")), reply) :
       replies.length > 0 && reply,
     told.length > 0 && make("div", { class: `told${kind}` }, told),

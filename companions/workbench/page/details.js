@@ -1,17 +1,17 @@
 // What is chosen, in words: an event, a message, an object or a promise; and how one event came of another. And what may be
 // done next.
 
-import { linked, make, plural } from "./elements.js";
+import { linked, make, plural, withLinks } from "./elements.js";
 
 const MOST = 40;
 const MOST_STEPS = 1_000_000;
 const DOES = { arrive: "Let it arrive", forward: "Let it go on", turn: "Have its turn", learn: "Let it learn" };
 
 const does = (line) => DOES[line.split(" ")[0]];
-const paragraphs = (lines) => lines.map((line) => make("p", {}, linked(line)));
+const paragraphs = (lines) => lines.map((line) => make("p", {}, withLinks(line)));
 const note = (line) => make("p", { class: "note" }, linked(line));
 const program = (text) => text.length > 0 && make("pre", { tabindex: 0 }, text.join("\n"));
-const said = (lines) => lines.length > 0 && make("pre", { tabindex: 0 }, lines.map((line) => [linked(line), "\n"]));
+const said = (lines) => lines.length > 0 && make("pre", { tabindex: 0 }, lines.map((line) => [withLinks(line), "\n"]));
 
 function part(title, ...children) {
   return make("div", { class: "part" }, make("h3", {}, title), ...children);
@@ -60,17 +60,17 @@ export function eventDetails(told, folded, acts) {
     make("div", { class: "acts" }, eventActions(told, acts)),
     told.message && messagePart(told.message),
     told.cells.length > 0 && part("Cells", cellTable(told.cells)),
-    told.log.length > 0 && part("Its log", make("ul", {}, told.log.map((line) => make("li", {}, linked(line))))),
+    told.log.length > 0 && part("Its log", make("ul", {}, told.log.map((line) => make("li", {}, withLinks(line))))),
     folded.length > 0 && part("Folded into it", make("p", {}, linked(folded.join(" "))), note("Arrivals and learning that belong to it.")),
     part("Causes", make("p", {}, told.causes.length > 0 ? linked(told.causes.join(" ")) : "It has none.")),
-    part("In the journal", make("p", { class: "line" }, linked(told.line))),
+    part("In the journal", make("p", { class: "line" }, withLinks(told.line))),
     told.notes.map(note),
   ];
 }
 
 // What else has a name; `enabled` are the lines of what may be done with it.
 export function thingDetails(told, enabled, acts) {
-  const shown = (told.shown ?? []).map(([vat, line]) => make("li", {}, vat ? make("b", {}, `${vat}: `) : null, linked(line)));
+  const shown = (told.shown ?? []).map(([vat, line]) => make("li", {}, vat ? make("b", {}, `${vat}: `) : null, withLinks(line)));
   return [
     make("h2", {}, told.title), paragraphs(told.words), program(told.text ?? []),
     enabled.length > 0 && make("div", { class: "acts" }, enabled.map((line) => button(`${does(line)}: ${line}`, () => acts.run(line)))),

@@ -9,7 +9,10 @@ function filled(element, attributes, children) {
     else if (value === true) element.setAttribute(name, "");
     else if (value !== false && value !== undefined && value !== null) element.setAttribute(name, value);
   }
-  element.append(...children.flat(Infinity).filter((child) => child !== null && child !== undefined && child !== false));
+  // One after another: there may be more than a call takes.
+  for (const child of children.flat(Infinity)) {
+    if (child !== null && child !== undefined && child !== false) element.append(child);
+  }
   return element;
 }
 
@@ -24,10 +27,12 @@ export function draw(tag, attributes = {}, ...children) {
 
 export const byId = (id) => document.getElementById(id);
 
-// A text in which each event, message, object, promise and variable is a link, and each command between backticks can be taken.
+// A sentence in which each event, message, object, promise and variable is a link, and each command between backticks can be taken.
 export function linked(text) {
-  const [plain, command, ...rest] = String(text).split("`");
-  return rest.length ? [withLinks(plain), commandNode(command), linked(rest.join("`"))] : withLinks(text);
+  const parts = String(text).split("`"), nodes = [];
+  let place = 0;
+  for (; place + 2 < parts.length; place += 2) nodes.push(withLinks(parts[place]), commandNode(parts[place + 1]));
+  return [...nodes, withLinks(parts.slice(place).join("`"))];
 }
 
 function commandNode(command) {
@@ -35,7 +40,8 @@ function commandNode(command) {
   return command.includes(" ") ? make("button", attributes, command) : make("code", {}, command);
 }
 
-function withLinks(text) {
+// A text as it is, in which names are links.
+export function withLinks(text) {
   const parts = [];
   let end = 0;
   for (const found of String(text).matchAll(NAME)) {
