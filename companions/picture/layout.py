@@ -9,6 +9,7 @@ from collections import defaultdict
 from dataclasses import dataclass, field, replace
 
 from conversation.journal import Event, maker_of
+from conversation.visible import visible
 
 from .arrows import arrows_to_waiting, cause_arrows, message_arrows
 
@@ -174,7 +175,7 @@ def first_of(waiting):
 
 def caption_of(event, texts):
     """What stands under an event's name: what it says where that is known, else what the journal has of it."""
-    text = " ".join(texts.get(event.name, "").split())
+    text = visible(" ".join(texts.get(event.name, "").split()))
     return shortened(text or " ".join(event.arguments), LONGEST_CAPTION)
 
 

@@ -3,6 +3,7 @@ import re
 import xml.etree.ElementTree as ElementTree
 
 from conversation.journal import cone
+from conversation.visible import visible
 
 from .layout import BOX_HEIGHT, PADDING, ROUND, WAITING, layout, shortened
 from .looks import LIGHT
@@ -15,8 +16,8 @@ LABEL_CHARACTER, LEAST_LABEL_WIDTH, LONGEST_LABEL = 9.5, 40, 24
 WIDTHS = {"message": 2, "cause": 1.4}
 DASHES = "5 4"
 
-# Characters that no XML text may have.
-FORBIDDEN = re.compile("[^\t\n\r\x20-\ud7ff\ue000-\ufffd\U00010000-\U0010ffff]")
+# Characters that no XML text may have, besides controls.
+FORBIDDEN = re.compile("[\ufffe\uffff]")
 LONGEST_TITLE = 1000
 LEAST_WIDTH = 760
 LEGEND_CHARACTER = 6.3
@@ -29,8 +30,13 @@ def add(parent, tag, **attributes):
     return ElementTree.SubElement(parent, tag, texts)
 
 
+def legible(text):
+    """A text of lines as XML may have it, in which each control is spelled."""
+    return FORBIDDEN.sub("\ufffd", "\n".join(map(visible, text.split("\n"))))
+
+
 def entitle(parent, text):
-    add(parent, "title").text = FORBIDDEN.sub("\ufffd", shortened(text, LONGEST_TITLE))
+    add(parent, "title").text = shortened(legible(text), LONGEST_TITLE)
 
 
 def classes(*words):
@@ -46,7 +52,7 @@ class Drawing:
 
     def write(self, parent, text, x, y, **attributes):
         element = add(parent, "text", x=x, y=y, **{"font_size": "12", "fill": self.look.ink, **attributes})
-        element.text = FORBIDDEN.sub("\ufffd", text)
+        element.text = legible(text)
 
     def is_within(self, arrow):
         return arrow.source in self.members and arrow.target in self.members

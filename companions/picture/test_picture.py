@@ -220,9 +220,10 @@ class Pictures(unittest.TestCase):
         self.assertEqual(boxes["e4"].find("title").text, "4 e4 undone turn e3.m0 causes e1 e2 e3\nvalue 10")
 
     def test_no_text_breaks_the_file(self):
-        said_ = "<&>\"' \x00\x0b\ud800\ufffe"
+        said_ = "<&>\"' \x9b\x0b\x00\ufffe"
         box = events_by_name(self.drawn(JOURNAL, texts={"e5": said_}))["e5"]
-        self.assertEqual(text_of(box, "caption"), "<&>\"' \ufffd \ufffd\ufffd")
+        self.assertEqual(text_of(box, "caption"), "<&>\"' \\u{9b} \\u{0…")
+        self.assertEqual(box.find("title").text.split("\n")[1], "<&>\"' \\u{9b}\\u{b}\\u{0}\ufffd")
 
     def test_an_empty_journal_is_told(self):
         root = self.drawn("")
