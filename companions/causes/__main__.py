@@ -4,15 +4,18 @@ Runs the commands of FILE (without FILE: standard input) on the built program, a
 for each vat, and in it the events from left to right in the journal's order.
 """
 import argparse
+import contextlib
 import pathlib
 import re
 import sys
 
 from building import crates, place, programs
 from conversation.commands import commands_of, lines_of
+from conversation.files import FileFault, bytes_of
 from conversation.journal import JournalFault
-from conversation.program import Ended
+from conversation.program import Ended, TooMuch
 from conversation.session import Session
+from conversation.visible import forget_output, guard_errors
 from picture.layout import scene_of
 from picture.looks import LOOKS
 from picture.svg import picture
@@ -27,7 +30,10 @@ class Fault(Exception):
 
 def read_input(file):
     try:
-        return pathlib.Path(file).read_bytes() if file else sys.stdin.buffer.read()
+        with open(file, "rb") if file else contextlib.nullcontext(sys.stdin.buffer) as stream:
+            return bytes_of(stream, file or "standard input")
+    except FileFault as fault:
+        raise Fault(str(fault)) from fault
     except OSError as fault:
         raise Fault(f"cannot read {file or 'standard input'}: {fault.strerror}") from fault
 
@@ -67,7 +73,7 @@ def session_of(program, commands):
             for command in commands:
                 session.give(command)
             return scene_of(session), [refused(each.command, each.reply[-1]) for each in session.answered if each.refusal]
-    except (Ended, JournalFault) as fault:
+    except (Ended, JournalFault, TooMuch) as fault:
         raise Fault(str(fault)) from fault
 
 
@@ -91,10 +97,12 @@ def put(file, text):
             sys.stdout.buffer.write(text.encode())
             sys.stdout.buffer.flush()
     except OSError as fault:
+        if not file:
+            forget_output()
         raise Fault(f"cannot write {file or 'standard output'}: {fault.strerror}") from fault
 
 
-def main(words=None):
+def words_of(words):
     parser = argparse.ArgumentParser(prog=NAME, description=__doc__, formatter_class=argparse.RawDescriptionHelpFormatter)
     parser.add_argument("--program", help=f"the program; without it {place.USUAL}")
     parser.add_argument("--out", metavar="FILE.svg", help="where the picture goes; without it to standard output")
@@ -102,19 +110,37 @@ def main(words=None):
     parser.add_argument("--all", action="store_true", help="draws arrivals and learning as events too, and not within others")
     parser.add_argument("--dark", action="store_true", help="draws on a dark ground")
     parser.add_argument("file", metavar="FILE", nargs="?", help="the commands; without it standard input is read")
-    arguments = parser.parse_args(words)
-    try:
-        text = read_input(arguments.file)
-        look = LOOKS["dark" if arguments.dark else "light"]
-        svg, faults = drawn(program_named(arguments.program), text, arguments.cone, is_folded=not arguments.all, look=look)
-        put(arguments.out, svg)
-    except Fault as fault:
-        print(f"{NAME}: {fault}", file=sys.stderr)
-        return 2
+    return parser.parse_args(words)
+
+
+def draw(arguments):
+    """Draws what the words ask for, and tells which commands were refused."""
+    text = read_input(arguments.file)
+    look = LOOKS["dark" if arguments.dark else "light"]
+    svg, faults = drawn(program_named(arguments.program), text, arguments.cone, is_folded=not arguments.all, look=look)
+    put(arguments.out, svg)
     if faults:
         count = "1 command was refused," if len(faults) == 1 else f"{len(faults)} commands were refused, the first is"
-        print(f"{NAME}: {count} {faults[0]}", file=sys.stderr)
-    return 0
+        complain(f"{count} {faults[0]}")
+
+
+def complain(what):
+    print(f"{NAME}: {what}", file=sys.stderr)
+
+
+def main(words=None):
+    guard_errors()
+    arguments = words_of(words)
+    try:
+        draw(arguments)
+        return 0
+    except Fault as fault:
+        complain(fault)
+    except MemoryError:
+        complain("there was not memory enough")
+    except KeyboardInterrupt:
+        return 130
+    return 2
 
 
 if __name__ == "__main__":

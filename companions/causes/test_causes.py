@@ -2,6 +2,10 @@
 import contextlib
 import io
 import os
+import pty
+import re
+import subprocess
+import sys
 import tempfile
 import unittest
 from pathlib import Path
@@ -26,6 +30,7 @@ ask a blue := blue + 1
 turn e7.m0
 journal
 """
+COMPANIONS = Path(__file__).resolve().parents[1]
 HANDOVER = Path(__file__).parents[2] / "examples" / "handover.evats"
 
 
@@ -117,6 +122,41 @@ class Runs(unittest.TestCase):
         for name in ["e3", "e9", "3", "e", "e1.m0"]:
             with self.assertRaises(Fault, msg=name):
                 checked_cone(events, name)
+
+    def run_at_a_terminal(self, *words):
+        """What is written to a terminal of its own, and the status."""
+        terminal, inner = pty.openpty()
+        words = [sys.executable, "-I", "-S", COMPANIONS / "start.py", "causes", "--program", STAND_IN, *words]
+        with subprocess.Popen(words, stdin=subprocess.DEVNULL, stdout=inner, stderr=inner) as process:
+            os.close(inner)
+            told = b""
+            with contextlib.suppress(OSError), open(terminal, "rb", buffering=0) as stream:
+                while piece := stream.read(1 << 16):
+                    told += piece
+        return told.decode(), process.returncode
+
+    def test_controls_can_be_seen_at_a_terminal(self):
+        out = self.folder / "out.svg"
+        told, status = self.run_at_a_terminal("--out", out, self.file("\x1b[31m \x9b\u202e\n"))
+        self.assertEqual((told, status), ("causes: 1 command was refused, `\\u{1b}[31m \\u{9b}\\u{202e}`: no S1 UnknownCommand\r\n", 0))
+        self.assertIn("cannot read \\u{1b}[31m: No such", self.run_at_a_terminal("\x1b[31m")[0])
+        self.assertIn("unrecognized arguments: \\u{1b}[31m", self.run_at_a_terminal("a", "\x1b[31m")[0])
+
+    def test_no_control_is_in_a_picture(self):
+        text = '"\x1b[31m\x07\x7f\x9b\u2028\u202e\u2066"'
+        drawn_, status = self.run_at_a_terminal(self.file(f"vat a () 1\n{text}\nrun 1\n"))
+        self.assertEqual((status, re.findall("[\0-\x08\x0b\x0c\x0e-\x1f\x7f-\x9f\u2028-\u202e\u2066]", drawn_)), (0, []))
+        self.assertIn("\\u{1b}[31m\\u{7}\\u{7f}\\u{9b}\\u{2028}\\u{202e}\\u{2066}", drawn_)
+
+    def test_what_has_no_end(self):
+        status, told = self.run_main("--program", STAND_IN, "/dev/zero")
+        self.assertEqual((status, told), (2, "causes: cannot read /dev/zero: it has more than 64 MiB\n"))
+
+    def test_a_full_device(self):
+        words = [sys.executable, "-I", "-S", COMPANIONS / "start.py", "causes", "--program", STAND_IN, self.file(COMMANDS)]
+        with open("/dev/full", "w") as full:
+            ran = subprocess.run(words, stdout=full, stderr=subprocess.PIPE, text=True, check=False)
+        self.assertEqual((ran.returncode, ran.stderr), (2, "causes: cannot write standard output: No space left on device\n"))
 
     def test_wrong_words(self):
         self.assertEqual(self.run_main("--what")[0], 2)

@@ -6,7 +6,7 @@ from .journal import between, cone, with_causes
 from .language import read_documents, told_of
 from .replies import refusal_in
 from .telling import answer_in_words
-from .texts import is_open
+from .texts import openness
 
 MOST_NAMES = 12
 BRACKETS = "Its brackets stand there always: `vat a () 1`, and `vat b (a) 1` where it sees the vat a."
@@ -68,7 +68,7 @@ def bad_words(session, command, refusal):
 
 def not_a_text(session, command, refusal):
     """What to look at first where a script is no program and ends in the midst of one: whether its lines were counted well."""
-    if command.word != "vat" or not is_open("\n".join(command.script)):
+    if command.word != "vat" or not openness("\n".join(command.script)).is_open:
         return []
     head = command.line.rpartition(")")[0]
     return [f"{len(command.script)} lines were taken for the script, and at their end a bracket or a text is still open.",

@@ -2,7 +2,8 @@
 import glob
 
 from .commands import words_of
-from .program import Ended, Stopped
+from .program import Ended, Stopped, TooMuch
+from .visible import visible
 
 # What stands for the rest of a line in the help.
 REST = {"PROGRAM", "TEXT"}
@@ -61,7 +62,8 @@ def labels(session, argument):
 
 
 def paths(text):
-    return sorted(glob.glob(glob.escape(text) + "*"))
+    """The files whose names begin so, without those that a terminal could not show as they are."""
+    return sorted(path for path in glob.iglob(glob.escape(text) + "*") if visible(path) == path)
 
 
 def commands(usages):
@@ -83,6 +85,6 @@ def completions(session, usages, before, text):
         return paths(text)
     try:
         found = usages if argument == "COMMAND" else words_for(session, usage, words, argument)
-    except (Ended, Stopped):
+    except (Ended, Stopped, TooMuch):
         return []
     return [word for word in [*found, *labels(session, argument)] if word.startswith(text)]

@@ -1,9 +1,11 @@
 """In which vat each event happens, and how turns ended, by what the program says. What was seen once is kept, whatever is
 taken back or settled since."""
+import contextlib
 import json
 
 from .commands import MOST_LINE
 from .journal import MAKING_A_MESSAGE, NAMING_A_VAT, maker_of, origins
+from .program import TooMuch
 from .replies import refusal_in
 from .world import read_world
 
@@ -25,7 +27,8 @@ class Places:
     def look_before(self, session, command):
         """Looks before a command that hides something, where anything happened since the last look."""
         if command.word in HIDING and self.taken < len(session.answered) and self.count <= MOST_LOOKED_AT:
-            self.look(session)
+            with contextlib.suppress(TooMuch):
+                self.look(session)
 
     def look(self, session):
         """Notes all that the program tells now."""

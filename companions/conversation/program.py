@@ -2,6 +2,7 @@
 import contextlib
 import itertools
 import os
+import re
 import select
 import signal
 import subprocess
@@ -11,10 +12,19 @@ import time
 # How long the program has to end where it is given nothing more.
 SECONDS = 60
 GREATEST_EVENT = 4_294_967_295
+NUMBER = re.compile("0*([0-9]+)")
+# How much of a reply is kept from its beginning, and how much at least from its end.
+MOST_KEPT, LAST_KEPT = 128 << 20, 1 << 20
+# How much of what the program says on standard error is told.
+MOST_TOLD = 10_000
 
 
 class Stopped(Exception):
     """The wait for a reply ended before it was whole; the program is still at it."""
+
+
+class TooMuch(Exception):
+    """A reply is longer than it can be looked at."""
 
 
 class Ended(Exception):
@@ -44,6 +54,8 @@ class Program:
 
     def __init__(self, words):
         self.words, self.heard, self.mark = list(words), bytearray(), None
+        # How many bytes of the reply were left out, which was too long.
+        self.left_out = 0
         self.errors = tempfile.TemporaryFile()
         pipes = {"stdin": subprocess.PIPE, "stdout": subprocess.PIPE, "stderr": self.errors}
         try:
@@ -71,7 +83,10 @@ class Program:
     def give(self, lines):
         """Gives a command, and behind it the mark."""
         data = "".join(f"{line}\n" for line in lines).encode(errors="surrogateescape")
-        event = next(each for each in itertools.count(GREATEST_EVENT, -1) if str(each).encode() not in data)
+        # A refusal names an event of the command's line at most.
+        named = set(NUMBER.findall(lines[0]))
+        event = next(each for each in itertools.count(GREATEST_EVENT, -1) if str(each) not in named)
+        self.left_out = 0
         self.mark = f"no B12 NoEvent e{event}\n".encode()
         data += f"cone e{event}\n".encode()
         # How a program ended that reads no more is told where its reply is missing.
@@ -96,9 +111,18 @@ class Program:
                 self.mark = None
                 raise Ended(self.end())
             self.heard += piece
-        reply = self.heard[: -len(self.mark)].decode(errors="replace")
+            self.leave_out()
+        del self.heard[-len(self.mark):]
+        reply = self.heard.decode(errors="replace")
         self.heard, self.mark = bytearray(), None
         return tuple(reply.split("\n")[:-1])
+
+    def leave_out(self):
+        """Leaves out the midst of a reply that is too long."""
+        surplus = len(self.heard) - MOST_KEPT - LAST_KEPT
+        if surplus >= LAST_KEPT:
+            del self.heard[MOST_KEPT:-LAST_KEPT]
+            self.left_out += surplus
 
     def is_whole(self):
         return self.heard == self.mark or self.heard.endswith(b"\n" + self.mark)
@@ -114,7 +138,7 @@ class Program:
         if self.errors.closed:
             return how_it_ended(self.process.returncode, "")
         self.errors.seek(0)
-        told = how_it_ended(self.process.returncode, self.errors.read().decode(errors="replace").strip())
+        told = how_it_ended(self.process.returncode, self.errors.read(MOST_TOLD).decode(errors="replace").strip())
         self.errors.close()
         return told
 

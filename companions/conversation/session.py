@@ -1,16 +1,20 @@
 """A session with the program: the commands so far with their replies, and what the program says that there is now."""
+import contextlib
 import functools
 import re
-from dataclasses import dataclass
+from dataclasses import replace
 
-from .commands import Command, words_of
+from .again import Answered, commands_again, renamed, step_of
+from .commands import words_of
 from .journal import read_journal
-from .places import Places
-from .program import Program, Stopped, help_of
-from .replies import ends_in, events_in, refusal_in
+from .places import MOST_LOOKED_AT, Places
+from .program import Program, Stopped, TooMuch, help_of
+from .replies import ends_in, events_in
 from .usages import usages_in
 from .world import read_world
 
+# Commands behind which the journal no longer tells which events the workers made before.
+HIDING_WORK = {"work", "exchange", "settle"}
 LABEL = re.compile(r"\$([A-Za-z_][A-Za-z_0-9]*)")
 # How long a question may take that nobody typed.
 SECONDS = 60
@@ -18,18 +22,6 @@ SECONDS = 60
 
 class UnknownLabel(Exception):
     """A label that no event has."""
-
-
-@dataclass(frozen=True)
-class Answered:
-    """A command that was given, and the lines of its reply."""
-
-    command: Command
-    reply: tuple
-
-    @property
-    def refusal(self):
-        return refusal_in(self.reply)
 
 
 class Session:
@@ -55,6 +47,9 @@ class Session:
     def forget(self):
         """Forgets all that was said."""
         self.answered, self.under_way, self.told = [], None, {}
+        # The question that is being asked; how many entries the journal has, if that is known; and which command workers did of
+        # whose entries nothing is known yet, with how many there were before.
+        self.question, self.entries, self.unseen = None, 0, None
         self.texts, self.authored, self.places = {}, {}, Places()
         # The journal as it was asked for last, and its events.
         self.journal = None, []
@@ -77,6 +72,8 @@ class Session:
     def give(self, command, seconds=None):
         """Gives a command, and notes it with its reply."""
         self.catch_up(seconds)
+        if command.word in HIDING_WORK:
+            self.note_work()
         if self.is_watched:
             self.places.look_before(self, command)
         self.under_way, self.told = command, {}
@@ -84,14 +81,21 @@ class Session:
         return self.catch_up(seconds)
 
     def catch_up(self, seconds=None):
-        """Hears the reply that is still to come, if there is one, and notes it with its command; gives both."""
+        """Hears the reply that is still to come, if there is one, and notes it with its command or its question; gives the former."""
         if not self.program.is_busy:
             return None
         reply = self.program.hear(self.stopper, seconds)
-        command, self.under_way = self.under_way, None
+        command, question = self.under_way, self.question
+        self.under_way = self.question = None
+        if question:
+            self.told[question] = None if self.program.left_out else reply
         if command is None:
             return None
         self.note(Answered(command, reply))
+        # Where that takes long it waits until it is wanted.
+        if command.word == "work" and (self.entries or 0) <= MOST_LOOKED_AT:
+            with contextlib.suppress(Stopped):
+                self.note_work()
         return self.answered[-1]
 
     def note(self, answered):
@@ -102,13 +106,40 @@ class Session:
             self.texts[made[0]] = command.text
             self.authored[made[0]] = words_of(command.line)[1]
         self.texts.update(ends_in(answered.reply))
+        self.count(made, command.word == "work" and answered.refusal is None)
+
+    def count(self, made, is_work):
+        """Counts the entries of the journal, as long as they are told."""
+        if self.entries is None or self.program.left_out or is_work and self.unseen:
+            self.entries = self.unseen = None
+            return
+        self.entries += len(made)
+        if is_work:
+            self.unseen = len(self.answered) - 1, self.entries
+
+    def note_work(self):
+        """Notes what workers did by the last `work`, as the journal tells it: the reply does not."""
+        if self.unseen is None or self.entries is None or self.program.is_busy:
+            return
+        place, before = self.unseen
+        with contextlib.suppress(TooMuch):
+            events = self.events()
+            end = events[-1].position - (self.entries - before) if events else before
+            done = [step_of(event) for event in events if before < event.position <= end]
+            self.answered[place] = replace(self.answered[place], worked=tuple(done))
+            self.entries += len(done)
+            self.unseen = None
 
     def ask(self, line, seconds=SECONDS):
         """The reply to a question, which is kept until the next command. Nothing is asked while the program is at work."""
         if line not in self.told:
             if self.program.is_busy:
                 raise Stopped("the program is at work")
-            self.told[line] = self.program.reply([line], self.stopper, seconds)
+            self.question = line
+            self.program.give([line])
+            self.catch_up(seconds)
+        if self.told[line] is None:
+            raise TooMuch(f"the reply to `{line}` is too long to be looked at")
         return self.told[line]
 
     def events(self, seconds=SECONDS):
@@ -151,15 +182,22 @@ class Session:
         return events, self.places.homes(events)
 
     def accepted(self):
-        """The commands so far that were not refused."""
-        return [each.command for each in self.answered if each.refusal is None]
+        """The commands that do again what was done so far, without those that were refused."""
+        self.note_work()
+        return commands_again(self.answered)
 
     def begin_anew(self):
         """Ends the program and starts it again with the commands so far. Gives the first one that is answered otherwise than
         before, or nothing."""
         self.program.stop()
-        before = self.answered
+        before, names, others = self.answered, {}, []
         self.program = Program(self.program_words)
         self.forget()
-        other = [each.command for each in before if self.give(each.command).reply != each.reply]
-        return other[0] if other else None
+        for each in before:
+            for step in each.steps:
+                again = self.give(renamed(step.command, names))
+                names.update(zip(step.events, events_in(again.reply)))
+                is_same = len(events_in(again.reply)) == 1 if each.worked is not None else again.reply == each.reply
+                others += [] if is_same else [step.command]
+        self.labels.update((label, names.get(event, event)) for label, event in self.labels.items())
+        return others[0] if others else None

@@ -2,29 +2,35 @@
 import itertools
 import os
 import random
+import re
 import signal
+import stat
 import sys
 import tempfile
+import time
 import unittest
 import unittest.mock
 from pathlib import Path
 
 from .advice import advice, pointed
+from .again import Answered, Step, commands_again
 from .commands import Command, commands_of, is_command, lines_of, script_length
 from .completion import completions
+from .files import FileFault
 from .helping import help_on
-from .history import keep, kept_lines
+from .history import NotKept, keep, kept_lines
 from .journal import JournalFault, between, cone, origins, read_journal, undone_cone, with_causes
 from .language import meanings, read_documents, told_of
-from .program import Ended, Program, Stopped, help_of
+from .program import Ended, Program, Stopped, TooMuch, help_of
 from .questions import answer_to, cell_of, cells_in, way_by_causes, why_in
 from .refusals import SENTENCES, in_words
 from .replies import Refusal, ends_in, events_in, refusal_in
 from .session import Session, UnknownLabel
 from .telling import answer_in_words, event_told, message_told, thing_told
-from .texts import is_bracketed, is_open, on_one_line, without_label
-from .typed import NotTyped, typed, written
+from .texts import Openness, on_one_line, openness, tokens_of, without_label
+from .typed import TOO_LONG, NotTyped, typed, written
 from .usages import usages_in
+from .visible import for_stream, visible
 from .world import read_world
 
 PROGRAM = os.environ.get("EVATS_PROGRAM") or str(Path(__file__).with_name("stand_in"))
@@ -93,6 +99,13 @@ for line in sys.stdin:
         time.sleep(0.4)
         print("done", flush=True)
 """
+THREE_AT_WORK = FORWARDED.replace("run 100", """\
+ask bob ann <- account()
+ask ann [account <- plus(1), account <- plus(2)]
+work 4 3
+ask bob 1
+work 4 100
+""")
 VARIABLES = """\
 vat a () 2
 var red := 1
@@ -202,10 +215,10 @@ class Journals(unittest.TestCase):
 class Texts(unittest.TestCase):
     def test_what_goes_on(self):
         for text in ["{", "f(", "[1, {2}", "def o { # }", '("a)"']:
-            self.assertTrue(is_bracketed(text), text)
+            self.assertTrue(openness(text).brackets, text)
         for text in ["", "{}", "f(])", '"{', '"a{b"', "# {", "}{}"]:
-            self.assertFalse(is_bracketed(text), text)
-        self.assertTrue(is_open('"a'))
+            self.assertFalse(openness(text).brackets, text)
+        self.assertTrue(openness('"a').is_open)
 
     def test_line_feeds_end_items_as_in_a_script(self):
         lines = {
@@ -217,12 +230,38 @@ class Texts(unittest.TestCase):
         for text, line in lines.items():
             self.assertEqual(on_one_line(text), line, text)
 
+    def test_what_is_open_behind_each_line(self):
+        chance = random.Random(11)
+        for _ in range(3_000):
+            text = "".join(chance.choices('"\\#\n(){}[]a \r', k=chance.randrange(12)))
+            lines, tokens, brackets = Openness(), tokens_of(text), 0
+            for line in text.split("\n"):
+                lines.take(line)
+            for token in tokens:
+                brackets = max(0, brackets + (token.spelling in set("([{")) - (token.spelling in set(")]}")))
+            wanted = brackets, any(token.kind == "open" for token in tokens)
+            self.assertEqual((lines.brackets, lines.is_quoted), wanted, text)
+
     def test_labels(self):
         self.assertEqual(without_label("a b as q"), ("a b", "q"))
         self.assertEqual(without_label("as q "), ("", "q"))
         self.assertEqual(without_label('"x" as q'), ('"x"', "q"))
         for text in ["", "q", "as", "a as", '"x as q"', "1 # as q", "has q", "x.as q"]:
             self.assertEqual(without_label(text), (text, None), text)
+
+
+class Visible(unittest.TestCase):
+    def test_controls_are_spelled(self):
+        seen = {
+            "\x1b[31m": "\\u{1b}[31m", "\x1b]0;x\x07": "\\u{1b}]0;x\\u{7}", "\x9b\x7f\r\n\0": "\\u{9b}\\u{7f}\\u{d}\\u{a}\\u{0}",
+            "\u202e\u2066\u200f\u2028\ufeff": "\\u{202e}\\u{2066}\\u{200f}\\u{2028}\\u{feff}", "\udc9b": "\\x9b",
+            "a\tb": "a\tb", "Größe 日本 👩‍👩‍👧": "Größe 日本 👩‍👩‍👧", "": "",
+        }
+        self.assertEqual({text: visible(text) for text in seen}, seen)
+
+    def test_as_they_are_where_there_is_no_terminal(self):
+        with tempfile.TemporaryFile("w") as file:
+            self.assertEqual(for_stream("\x1b[31m", file), "\x1b[31m")
 
 
 class Typing(unittest.TestCase):
@@ -252,6 +291,22 @@ class Typing(unittest.TestCase):
         self.assertEqual(self.typed("ask a", "y"), (("ask a",), None, ["y"]))
         self.assertEqual(self.typed("ask a x  as q"), (("ask a x",), "q", []))
 
+    def test_a_text_on_many_lines_costs_by_its_length(self):
+        texts = [["vat a ()", "{", *["x := 1", ""] * 6_000, "}", ""], ["ask a [", *["1,"] * 16_000, "]"]]
+        before = time.process_time()
+        for lines in texts:
+            self.typed(*lines)
+        self.assertLess(time.process_time() - before, 5)
+
+    def test_a_text_that_is_too_long_is_left_out_to_its_end(self):
+        for lines in (["vat a ()", *["1"] * 32_769, "", "show"], ["ask a {", *["1"] * 32_768, "}", "show"]):
+            told, rest = [], iter(lines[1:])
+            with self.assertRaises(NotTyped) as fault:
+                typed(lines[0], lambda what: told.append(what) or next(rest, None))
+            self.assertIn("and may have 65,536", str(fault.exception))
+            self.assertEqual((list(rest), told[-1]), (["show"], TOO_LONG))
+        self.assertEqual(self.typed("ask a {", *["1"] * 32_766, "}", "show")[2], ["show"])
+
     def test_others(self):
         self.assertEqual(self.typed("  turn $q.m0 as t"), (("turn $q.m0",), "t", []))
         self.assertEqual(self.typed("show # all"), (("show # all",), None, []))
@@ -263,7 +318,7 @@ class Typing(unittest.TestCase):
             file.flush()
             self.assertEqual(self.typed(f"vat a () @{file.name} as v")[0], ("vat a () 3", "var n := 1", "", "n"))
             self.assertEqual(self.typed(f"ask a @{file.name} as q")[:2], (("ask a var n := 1; n",), "q"))
-        with self.assertRaises(NotTyped):
+        with self.assertRaises(FileFault):
             self.typed("ask a @/none/such")
 
     def test_written(self):
@@ -298,6 +353,19 @@ class Programs(unittest.TestCase):
             self.assertEqual(program.hear(), ("done",))
             os.close(reading)
             os.close(writing)
+
+    def test_the_midst_of_a_reply_that_is_too_long_is_left_out(self):
+        body = 'for line in sys.stdin:\n    print("no B12 NoEvent " + line[5:] if line[:4] == "cone" else "x\\n" * 9999 + "last\\n", end="", flush=True)'
+        with unittest.mock.patch.multiple("conversation.program", MOST_KEPT=4_000, LAST_KEPT=1_000):
+            with Program([stub(self.folder, body)]) as program:
+                reply = program.reply(["long"])
+                self.assertEqual((reply[0], reply[-1], program.left_out > 10_000, len(reply) < 4_000), ("x", "last", True, True))
+                self.assertEqual((program.reply(["cone e7"]), program.left_out), (("no B12 NoEvent e7",), 0))
+            with Session([program.words[0]]) as session:
+                for _ in range(2):
+                    with self.assertRaises(TooMuch):
+                        session.ask("show")
+                self.assertEqual(session.give(Command("long")).reply[-1], "last")
 
     def test_how_a_program_ends(self):
         endings = {"sys.exit('no room')": "it ended with 1: no room", "sys.exit(2)": "it ended with 2",
@@ -371,6 +439,52 @@ class Sessions(unittest.TestCase):
         self.assertEqual(self.session.catch_up().reply, ("ok e3 e3.m0",))
         self.assertIsNone(self.session.catch_up())
         self.assertEqual(len(self.session.answered), 3)
+
+
+class Again(unittest.TestCase):
+    """What does a session again, also where workers did a part of it."""
+
+    def again(self, *answered):
+        return [command.line for command in commands_again(answered)]
+
+    def worked(self, line, *steps):
+        return Answered(Command(line), ("ok work 1",), tuple(Step(Command(each), (event,)) for each, event in steps))
+
+    def test_what_was_refused_is_left_out(self):
+        refused, run = Answered(Command("undo e9"), ("no B12 NoEvent e9",)), Answered(Command("run 9"), ("ok e1", "ok e2 value 1", "no B20 NoMemory"))
+        self.assertEqual(self.again(refused, run, Answered(Command("show"), ())), ["run 2", "show"])
+
+    def test_events_have_the_names_that_they_have_then(self):
+        made = Answered(Command("vat e4 () 0"), ("ok e1 e1.m0",))
+        # Two workers: what has the name e2 came behind e3, and e4 was lost.
+        worked = self.worked("work 2 9", ("turn e1.m0", "e3"), ("arrive e3.m0", "e2"), ("turn e3.m0", "e5"))
+        others = ["redo e2 e05 e1", "learn e4 e5.p0", "why e3 e2", "log e4", "object e3.o1", "ask e4 e5"]
+        found = self.again(made, worked, *(Answered(Command(line), ("ok",)) for line in others))
+        self.assertEqual(found[1:4], ["turn e1.m0", "arrive e2.m0", "turn e2.m0"])
+        self.assertEqual(found[4:], ["redo e3 e4 e1", "learn e4 e4.p0", "why e2 e3", "log e4", "object e2.o1", "ask e4 e5"])
+
+    def seen(self, session):
+        """The journal, with events called by their places."""
+        lines = session.ask("journal")
+        names = {line.split()[1]: f"event {place}" for place, line in enumerate(lines)}
+        return [re.sub(r"\be\d+\b", lambda found: names[found[0]], line) for line in lines]
+
+    def test_workers_are_done_again_by_their_turns(self):
+        # What workers did is asked for at once in a short session, and in a long one where it is wanted.
+        for most in (2_000, 0):
+            with unittest.mock.patch("conversation.session.MOST_LOOKED_AT", most), Session([PROGRAM]) as session:
+                for command in commands_of(lines_of(THREE_AT_WORK)):
+                    session.give(command)
+                session.give(Command(f"undo-cone {session.events()[9].name}"))
+                session.give(Command("run 2"))
+                before, commands = self.seen(session), session.accepted()
+                self.assertNotIn("work", {command.word for command in commands})
+                session.begin_anew()
+                self.assertEqual(self.seen(session), before)
+            with Session([PROGRAM]) as other:
+                for command in commands:
+                    self.assertIsNone(other.give(command).refusal, command)
+                self.assertEqual(self.seen(other), before)
 
 
 class Words(unittest.TestCase):
@@ -506,7 +620,8 @@ class Helping(unittest.TestCase):
 
     def test_files(self):
         with tempfile.TemporaryDirectory() as folder:
-            Path(folder, "bank.e").write_text("1\n")
+            for name in ("bank.e", "bank\x1b[31m", "bank\x9b"):
+                Path(folder, name).write_text("1\n")
             self.assertEqual(self.completed("vat a () ", f"@{folder}/b"), [f"@{folder}/bank.e"])
 
 
@@ -670,18 +785,78 @@ class Questions(Watched):
 
 
 class History(unittest.TestCase):
+    def setUp(self):
+        folder = tempfile.TemporaryDirectory()
+        self.addCleanup(folder.cleanup)
+        patched = unittest.mock.patch.dict(os.environ, {"XDG_STATE_HOME": folder.name})
+        patched.start()
+        self.addCleanup(patched.stop)
+        self.file = Path(folder.name, "evats", "history")
+
+    def modes(self):
+        return [stat.S_IMODE(path.stat().st_mode) for path in (self.file.parent, self.file)]
+
     def test_lines_are_kept(self):
-        with tempfile.TemporaryDirectory() as folder, unittest.mock.patch.dict(os.environ, {"XDG_STATE_HOME": folder}):
-            self.assertEqual(kept_lines(), [])
-            keep("show\n\njournal")
-            keep("step")
-            self.assertEqual(kept_lines(), ["show", "journal", "step"])
-            self.assertEqual(os.stat(Path(folder, "evats", "history")).st_mode & 0o777, 0o600)
+        self.assertEqual(kept_lines(), [])
+        keep("show\n\njournal")
+        keep("step")
+        self.assertEqual((kept_lines(), self.modes()), (["show", "journal", "step"], [0o700, 0o600]))
+
+    def test_what_was_open_to_others_is_closed(self):
+        for act in (kept_lines, lambda: keep("step")):
+            self.file.parent.mkdir(exist_ok=True)
+            self.file.write_text("show\n")
+            self.file.parent.chmod(0o777)
+            self.file.chmod(0o666)
+            act()
+            self.assertEqual(self.modes(), [0o700, 0o600])
+
+    def test_a_file_that_grew_too_long_is_cut(self):
+        keep("\n".join(f"undo e{place}" for place in range(200_000)))
+        self.assertEqual(kept_lines(), [f"undo e{place}" for place in range(198_000, 200_000)])
+        self.assertLess(self.file.stat().st_size, 50_000)
+
+    def not_kept(self):
+        for act in (kept_lines, lambda: keep("show")):
+            with self.assertRaises(NotKept):
+                act()
+
+    def test_a_link_is_followed_to_a_file_of_ones_own_alone(self):
+        own, other = (self.file.parent.parent / name for name in ("own", "other"))
+        own.write_text("show\n")
+        self.file.parent.mkdir()
+        self.file.symlink_to(own)
+        self.assertEqual(kept_lines(), ["show"])
+        self.file.unlink()
+        os.mkfifo(self.file)
+        self.not_kept()
+        self.file.unlink()
+        # Root can make what is somebody else's; of others there is something everywhere.
+        if os.geteuid() == 0:
+            other.write_text("show\n")
+            os.chown(other, 1, 1)
+            self.file.symlink_to(own)
+            os.chown(self.file, 1, 1, follow_symlinks=False)
+            self.not_kept()
+            self.file.unlink()
+        self.file.symlink_to(other if other.exists() else "/etc/passwd")
+        self.not_kept()
+
+    def test_a_folder_of_somebody_else_is_left_as_it_is(self):
+        other = self.file.parent.parent / "other"
+        other.mkdir(mode=0o755)
+        self.file.parent.symlink_to(other)
+        with unittest.mock.patch.object(os, "geteuid", return_value=os.geteuid() + 1):
+            self.not_kept()
+        self.assertEqual((stat.S_IMODE(other.stat().st_mode), list(other.iterdir())), (0o755, []))
 
     def test_where_nothing_can_be_kept(self):
-        with unittest.mock.patch.dict(os.environ, {"XDG_STATE_HOME": "/dev/null"}):
-            keep("show")
-            self.assertEqual(kept_lines(), [])
+        os.environ["XDG_STATE_HOME"] = "/dev/null"
+        self.not_kept()
+        os.environ["XDG_STATE_HOME"] = ""
+        with unittest.mock.patch.dict(os.environ), unittest.mock.patch("pwd.getpwuid", side_effect=KeyError):
+            del os.environ["HOME"]
+            self.not_kept()
 
 
 class Random(unittest.TestCase):

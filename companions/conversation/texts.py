@@ -13,6 +13,9 @@ TOKEN = re.compile(
     """,
     re.VERBOSE | re.DOTALL,
 )
+# The end of a text between quotation marks; and what opens or closes something outside of one, but for what stands in a comment.
+QUOTED = re.compile(r'(?:[^"\\]|\\.)*(?P<sign>")', re.DOTALL)
+UNQUOTED = re.compile(r'#[^\n]*|(?P<sign>["()\[\]{}])')
 # Names that are signs or words, behind which no item ends, and before which none begins.
 ENDING_WORDS = {"true", "false", "null", "return"}
 BEGINNING_WORDS = {"true", "false", "null", "Ref", "throw", "def", "var", "if", "while", "for", "escape", "try", "when", "return"}
@@ -45,26 +48,37 @@ def tokens_of(text):
     return [Token(found.lastgroup, found[0]) for found in TOKEN.finditer(text)]
 
 
-def open_brackets(tokens):
-    """The brackets that are open behind these tokens; a closing one closes the innermost, of whichever kind."""
-    brackets = []
-    for token in tokens:
-        if token.kind == "sign" and token.spelling in OPENING:
-            brackets.append(token.spelling)
-        elif token.kind == "sign" and token.spelling in CLOSING and brackets:
-            brackets.pop()
-    return brackets
+class Openness:
+    """What is open behind the lines of a text that were taken so far; each line costs by its own length."""
+
+    def __init__(self):
+        self.brackets, self.is_quoted = 0, False
+
+    @property
+    def is_open(self):
+        """Whether brackets or a text between quotation marks are open."""
+        return bool(self.brackets) or self.is_quoted
+
+    def take(self, line):
+        """Goes on with a line. A closing bracket closes the innermost, of whichever kind."""
+        line, place = f"{line}\n", 0
+        while found := self.next_sign(line, place):
+            place, sign = found.end(), found["sign"]
+            if sign == '"':
+                self.is_quoted = not self.is_quoted
+            elif sign:
+                self.brackets = max(0, self.brackets + (1 if sign in OPENING else -1))
+
+    def next_sign(self, line, place):
+        """The next of what opens or closes something, or a comment; nothing where there is none in the line."""
+        return QUOTED.match(line, place) if self.is_quoted else UNQUOTED.search(line, place)
 
 
-def is_bracketed(text):
-    """Whether brackets are open where the text ends."""
-    return bool(open_brackets(tokens_of(text)))
-
-
-def is_open(text):
-    """Whether brackets or a text between quotation marks are open where the text ends."""
-    tokens = tokens_of(text)
-    return bool(open_brackets(tokens)) or any(token.kind == "open" for token in tokens)
+def openness(text):
+    """What is open where a text ends."""
+    found = Openness()
+    found.take(text)
+    return found
 
 
 def gap(before, token, after, brackets):

@@ -10,6 +10,7 @@ import sys
 from building import crates, place, programs
 from conversation.program import Ended
 from conversation.session import Session
+from conversation.visible import forget_output, guard_errors
 
 from .consoles import Pipe
 from .talking import Talk
@@ -56,7 +57,12 @@ def end_by(number, _):
     sys.exit(128 + number)
 
 
+def complain(what):
+    print(f"{NAME}: {what}", file=sys.stderr)
+
+
 def main(words=None):
+    guard_errors()
     arguments = words_of(words)
     for number in (signal.SIGHUP, signal.SIGTERM):
         signal.signal(number, end_by)
@@ -64,9 +70,14 @@ def main(words=None):
         with Session(program_words(arguments)) as session:
             return talk(session, arguments.file)
     except (Ended, crates.Fault) as fault:
-        print(f"{NAME}: {fault}", file=sys.stderr)
+        complain(fault)
     except BrokenPipeError:
-        sys.stderr.close()
+        forget_output()
+    except OSError as fault:
+        forget_output()
+        complain(f"reading or writing failed: {fault.strerror}")
+    except MemoryError:
+        complain("there was not memory enough")
     except KeyboardInterrupt:
         return 130
     return 2

@@ -4,6 +4,8 @@ import io
 import sys
 
 from building.place import command
+from conversation.commands import MOST_LINE
+from conversation.visible import for_stream
 
 PROMPT, MORE = "> ", ". "
 MARK = "# "
@@ -14,21 +16,30 @@ def decoded(line):
     return line.decode(errors="surrogateescape").removesuffix("\n").removesuffix("\r") if line else None
 
 
+def line_of(stream):
+    """The next line of a stream, or nothing at its end; of one that is longer than the program reads, more than that is left out."""
+    line = rest = stream.readline(MOST_LINE + 2)
+    while rest and not rest.endswith(b"\n"):
+        rest = stream.readline(MOST_LINE)
+    return decoded(line)
+
+
 def put(lines, stream=None):
+    """Writes lines, to a terminal so that each control in them can be seen."""
     stream = stream or sys.stdout
     stream.flush()
-    stream.buffer.write("".join(f"{line}\n" for line in lines).encode(errors="surrogateescape"))
+    stream.buffer.write("".join(f"{for_stream(line, stream)}\n" for line in lines).encode(errors="surrogateescape"))
     stream.buffer.flush()
 
 
 class File:
     """The lines of a file, one after another, which are shown as they are taken."""
 
-    def __init__(self, data, show=lambda prompt, line: None):
+    def __init__(self, data, show):
         self.data, self.show = io.BytesIO(data), show
 
     def taken(self, prompt):
-        line = decoded(self.data.readline())
+        line = line_of(self.data)
         if line is not None:
             self.show(prompt, line)
         return line
@@ -46,7 +57,7 @@ class Pipe:
     is_terminal = False
 
     def first(self):
-        return decoded(sys.stdin.buffer.readline())
+        return line_of(sys.stdin.buffer)
 
     def more(self, what):
         return self.first()
@@ -64,7 +75,12 @@ class Pipe:
         put([f"{command('talk')}: {text}"], sys.stderr)
 
     def agrees(self, question):
-        return True
+        """Nobody is there who could agree."""
+        return False
+
+    def forget(self):
+        """Nothing was pasted."""
+        return 0
 
     def waiting(self):
         return contextlib.nullcontext()

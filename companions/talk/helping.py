@@ -7,8 +7,8 @@ from conversation.usages import usages_in
 OWN = f"""\
 Commands, one a line:
   help [COMMAND]            all commands; or one, or a refusal by its code, as `help B15`
-  save FILE                 writes the commands so far that were not refused, as `{RUN} FILE` takes them
-  load FILE                 does the commands of a file
+  save FILE                 writes the commands so far that were not refused, as `{RUN} FILE` takes them; for `work` its turns
+  load FILE                 does the commands of a file, which may name files of its own folder alone
   labels                    lists the labels of events
   stop                      ends a command that is still at work, as if it had not been given
   quit                      ends the talk, as the end of the input does
@@ -19,7 +19,7 @@ How they may be typed:
   ask NAME PROGRAM          goes on in the next lines as long as a bracket is open, or up to an empty one
   @FILE                     in place of the number or the program takes it from a file
   COMMAND as LABEL          names its event: $LABEL stands for it, $LABEL.m0 for its first message
-  control-C                 ends the wait for a reply, or drops a line that is half typed"""
+  control-C                 ends the wait for a reply, or drops a line that is half typed, and what was pasted behind it"""
 
 
 def own_usages():

@@ -10,6 +10,7 @@ import time
 from pathlib import Path
 
 COMPANIONS = Path(__file__).resolve().parents[1]
+START = [sys.executable, "-I", "-S", str(COMPANIONS / "start.py")]
 # What a terminal is told that is no text: colours, moves of the cursor, modes.
 CONTROL = re.compile(r"\x1b(?:\[[?0-9;]*[A-Za-z]|[=>])|\x07|\r")
 # A wide terminal, and none of the person's own settings.
@@ -24,14 +25,14 @@ class NotSeen(Exception):
 
 
 class Person:
-    """Starts `./talk` with these words; what it keeps goes below a folder."""
+    """Starts `./talk` with these words; what it keeps goes below a folder, if no variable says otherwise."""
 
-    def __init__(self, folder, *words):
+    def __init__(self, folder, *words, **variables):
         self.seen = ""
-        variables = {"PYTHONPATH": str(COMPANIONS), "XDG_STATE_HOME": str(folder), **PLAIN}
+        variables = {"XDG_STATE_HOME": str(folder), **PLAIN, **variables}
         self.terminal, inner = pty.openpty()
         self.process = subprocess.Popen(
-            [sys.executable, "-m", "talk", *words], stdin=inner, stdout=inner, stderr=inner, cwd=folder,
+            [*START, "talk", *words], stdin=inner, stdout=inner, stderr=inner, cwd=folder,
             env={**os.environ, **variables}, preexec_fn=lambda: self.lead(inner),
         )
         os.close(inner)

@@ -1,19 +1,18 @@
 """The talk: what is typed goes to the program, and what helps is told behind its replies."""
 import contextlib
-import os
 from dataclasses import replace
-from pathlib import Path
 
 from building.place import RUN
 from conversation.advice import advice, behind_an_undo, pointed
 from conversation.commands import is_command, words_of
+from conversation.files import ANYWHERE, FileFault, write
 from conversation.journal import JournalFault
-from conversation.program import Ended, Stopped
+from conversation.program import Ended, Stopped, TooMuch
 from conversation.refusals import in_words
 from conversation.replies import events_in, refusal_in
 from conversation.session import UnknownLabel
 from conversation.telling import answer_in_words
-from conversation.typed import NotTyped, Typed, bytes_in, typed, written
+from conversation.typed import NotTyped, Typed, typed, written
 
 from .consoles import File
 from .helping import help_on, usages_of
@@ -37,50 +36,59 @@ class Talk:
 
     def __init__(self, session, console):
         self.session, self.console = session, console
-        self.seen, self.loading, self.faults, self.label = set(), [], 0, None
+        # Which files the commands may name that are being done.
+        self.files = ANYWHERE
+        self.seen, self.faults = set(), 0
+        # The label for the event of the command in hand, and what that takes back.
+        self.label, self.undone = None, []
         ours = (self.help, self.save, self.load, self.labels, self.stop, self.quit)
         self.own = {**{each.__name__: each for each in ours}, "exit": self.quit}
         session.own_words = tuple(self.own)
+
+    @property
+    def is_loading(self):
+        return bool(self.files.loading)
 
     def begin(self, file=None):
         """Does the commands of a file, if one is named, and then those of the console."""
         with contextlib.suppress(Quit):
             if file:
-                self.converse(File(f"load {file}\n".encode(errors="surrogateescape")))
+                self.attempt(lambda: self.load(file))
             self.converse(self.console)
 
     def converse(self, source):
         """Does what a source has, until it ends."""
-        while self.converse_once(source):
+        while self.attempt(lambda: self.do_next(source)):
             pass
 
-    def converse_once(self, source):
-        """Does the next command; tells whether there was one. Control-C drops it, or the whole file that is being loaded."""
+    def do_next(self, source):
+        """Does the next command; tells whether there was one."""
+        line = source.first()
+        if line is not None:
+            self.do(line, source.more)
+        return line is not None
+
+    def attempt(self, act):
+        """Does something, and gives what it does; tells what is wrong with it. Control-C drops it, or the whole file that is being
+        loaded."""
         try:
-            return self.done_next(source)
+            return act()
         except KeyboardInterrupt:
-            if not self.console.is_terminal or self.loading:
+            if not self.console.is_terminal or self.is_loading:
                 raise
             self.console.drop()
-            return True
-
-    def done_next(self, source):
-        """Does the next command, and tells what is wrong with it; gives whether there was one."""
-        try:
-            line = source.first()
-            if line is None:
-                return False
-            self.do(line, source.more)
         except Stopped:
-            if self.loading:
+            if self.is_loading:
                 raise
-            self.console.tell([self.at_work()])
+            self.tell_stopped()
         except Ended as ended:
-            if self.loading or not self.console.is_terminal:
+            if self.is_loading or not self.console.is_terminal:
                 raise
             self.begin_again(ended)
-        except (NotTyped, UnknownLabel, JournalFault) as fault:
+        except (NotTyped, FileFault, UnknownLabel, JournalFault, TooMuch) as fault:
             self.fault(str(fault))
+        except MemoryError:
+            self.fault("there was not memory enough for that; `stop` starts the program again")
         return True
 
     def fault(self, text):
@@ -96,11 +104,10 @@ class Talk:
             self.catch_up(words[0])
         if words[0] in self.own and words[0] not in self.session.usages:
             return self.own[words[0]](line.strip()[len(words[0]):].strip())
-        given = typed(line, more)
+        given = typed(line, more, self.files)
         if given.command.word not in ("ask", "vat"):
             given = Typed(replace(given.command, line=self.session.resolved(given.command.line)), given.label)
-        if given.command.word != "undo-cone" or self.agrees_to_undo(given.command):
-            self.give(given)
+        self.give(given)
 
     def catch_up(self, word):
         """Shows the reply that was still to come."""
@@ -111,7 +118,15 @@ class Talk:
     def give(self, given):
         self.label = given.label
         with self.console.waiting():
+            self.undone = self.cone_of(given.command)
             self.answer(self.session.give(given.command))
+
+    def cone_of(self, command):
+        """The events that an `undo-cone` will take back, where that is told; nothing where it is refused."""
+        if command.word != "undo-cone" or not self.console.is_terminal:
+            return []
+        reply = self.session.ask(f"cone{command.line.removeprefix('undo-cone')}")
+        return [] if refusal_in(reply) else reply[0].split()[1:]
 
     def name_event(self, answered):
         """Gives the event of a reply the label that was typed behind its command, if one was."""
@@ -126,7 +141,7 @@ class Talk:
         self.seen.update(made := events_in(answered.reply))
         if not self.console.is_terminal:
             return
-        with contextlib.suppress(Stopped):
+        with contextlib.suppress(Stopped, TooMuch):
             self.tell_about(answered, made)
 
     def tell_about(self, answered, made):
@@ -137,8 +152,9 @@ class Talk:
             self.console.tell(advice(self.session, answered.command, refusal))
         elif word in DOING:
             self.tell_done(made, word)
-        elif word in UNDOING and len(self.seen) <= MOST_SEEN:
-            self.console.tell(behind_an_undo(self.session))
+        elif word in UNDOING:
+            self.console.tell([f"`redo {' '.join(self.undone)}` would bring it back."] if self.undone else [])
+            self.console.tell(behind_an_undo(self.session) if len(self.seen) <= MOST_SEEN else [])
         else:
             told = answer_in_words(self.session, word, answered.reply)
             self.console.tell(map(shortened, told[:MOST_TOLD]))
@@ -162,19 +178,11 @@ class Talk:
         self.seen.update(names)
         return [names[name] for name in wanted if name in names]
 
-    def agrees_to_undo(self, command):
-        """Tells what an `undo-cone` would take back, and asks where it was typed at a terminal and will not be refused."""
-        if not self.console.is_terminal or self.loading:
-            return True
-        with self.console.waiting():
-            reply = self.session.ask(f"cone{command.line.removeprefix('undo-cone')}")
-            if refusal_in(reply):
-                return True
-            names = reply[0].split()[1:]
-            lines = [event.line for event in self.session.events() if event.name in names]
-        more = [f".. and {len(lines) - MOST_TOLD} more"] if len(lines) > MOST_TOLD else []
-        self.console.tell([*map(shortened, lines[:MOST_TOLD]), *more])
-        return self.console.agrees(f"take back {'this event' if len(names) == 1 else f'these {len(names)} events'}?")
+    def tell_stopped(self):
+        """Tells what the program is still at. What was pasted behind it would wait for that too, and is not done."""
+        self.console.tell([self.at_work()])
+        if count := self.console.forget():
+            self.console.tell([f"what was pasted behind it is dropped: {count} {'line' if count == 1 else 'lines'}"])
 
     def at_work(self):
         under_way = self.session.under_way
@@ -184,7 +192,7 @@ class Talk:
     def begin_again(self, ended):
         """Starts the program again that has ended."""
         other = self.session.begin_anew()
-        told = [f"The program has ended: {ended}.", "It was started again, with the commands before this one."]
+        told = f"The program has ended: {ended}.\nIt was started again, with the commands before this one.".split("\n")
         self.console.tell([*told, *self.otherwise(other)])
 
     def otherwise(self, command):
@@ -194,31 +202,26 @@ class Talk:
         self.console.tell(help_on(rest.split(" ")[0], usages_of(self.session)))
 
     def save(self, rest):
-        commands = self.session.accepted()
         if not rest:
             return self.fault("`save` wants the name of a file")
-        path = Path(rest).expanduser()
-        if path.exists() and not self.console.agrees(f"{rest} is there: write over it?"):
-            return None
-        text = "".join(map(written, commands))
-        try:
-            path.write_bytes(text.encode(errors="surrogateescape"))
-        except OSError as fault:
-            return self.fault(f"cannot write {rest}: {fault.strerror}")
-        return self.console.tell([f"{len(commands)} commands are in {rest}: `{RUN} {rest}` does them again"])
+        path, is_there = self.files.to_write(rest)
+        # Where a loaded file names it, nobody has seen the folder.
+        name = path if self.is_loading else rest
+        if is_there and not self.console.agrees(f"{name} is there: write over it?"):
+            return self.fault(f"{name} is there, and stays as it is")
+        commands = self.session.accepted()
+        write(path, name, "".join(map(written, commands)).encode(errors="surrogateescape"), is_there)
+        return self.console.tell([f"{len(commands)} commands are in {name}: `{RUN} {name}` does them again"])
 
     def load(self, rest):
         if not rest:
             return self.fault("`load` wants the name of a file")
-        path = os.path.realpath(Path(rest).expanduser())
-        if path in self.loading:
-            return self.fault(f"{rest} is being loaded already")
-        source = File(bytes_in(rest), self.console.show)
-        self.loading.append(path)
+        before = self.files
+        data, self.files = self.files.load(rest)
         try:
-            self.converse(source)
+            self.converse(File(data, self.console.show))
         finally:
-            self.loading.pop()
+            self.files = before
         return None
 
     def labels(self, _):

@@ -14,6 +14,7 @@ from pathlib import Path
 
 from building.programs import named_or_built
 from conversation.commands import commands_of, lines_of
+from conversation.files import FileFault
 from conversation.typed import NotTyped, Typed, typed
 from sessions.cases import Case
 from sessions.differences import differences
@@ -33,7 +34,7 @@ def is_read_alike(text):
         script = iter(command.script)
         try:
             given = typed(command.line, lambda what: next(script))
-        except (NotTyped, StopIteration):
+        except (NotTyped, FileFault, StopIteration):
             return False
         if given != Typed(replace(command, start=0)):
             return False

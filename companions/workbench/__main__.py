@@ -11,6 +11,7 @@ from pathlib import Path
 from building import crates, place, programs
 from conversation.program import Ended
 from conversation.session import Session
+from conversation.visible import guard_errors
 
 from .desk import Desk
 from .server import Workbench
@@ -58,6 +59,7 @@ def serve(session, about, arguments):
 
 
 def main(words=None):
+    guard_errors()
     arguments = words_of(words)
     for number in (signal.SIGHUP, signal.SIGTERM, signal.SIGINT):
         signal.signal(number, end_by)

@@ -1,34 +1,38 @@
 """A session as the page has it: what was typed waits in a row, and replies are told with what helps."""
+import contextlib
 import functools
 import time
 from collections import deque
 from dataclasses import replace
-from pathlib import Path
 
 from building.place import RUN
 from conversation.advice import advice, pointed
 from conversation.commands import is_command, words_of
+from conversation.files import ANYWHERE, FileFault, write
 from conversation.helping import help_on, row
 from conversation.places import MOST_LOOKED_AT
-from conversation.program import Ended, Stopped
+from conversation.program import Ended, Stopped, TooMuch
 from conversation.refusals import in_words
 from conversation.replies import events_in, refusal_in
 from conversation.session import UnknownLabel
-from conversation.typed import NotTyped, Typed, text_in, typed, written
+from conversation.typed import NotTyped, Typed, typed, written
 from conversation.usages import usages_in
+from conversation.world import read_world
 
 OWN = f"""\
 Commands, one a line:
   help [COMMAND]            all commands; or one, or a refusal by its code, as `help B15`
-  save FILE                 writes the commands so far that were not refused, as `{RUN} FILE` takes them
-  load FILE                 does the commands of a file
+  save FILE                 writes the commands so far that were not refused, as `{RUN} FILE` takes them; for `work` its turns
+  load FILE                 does the commands of a file, which may name files of its own folder alone
   labels                    lists the labels of events
   stop                      ends a command that is still at work, as if it had not been given
 """
 # How long a request may last, before the page hears that the program is still at work.
 SLICE = 0.5
 # How much of a reply is shown.
-MOST_LINES = 400
+MOST_LINES, LONGEST_LINE = 400, 100_000
+# The commands of the workbench that name a file.
+NAMING_A_FILE = {"save", "load"}
 TAKING_BACK, DOING = {"undo", "undo-cone"}, {"step", "run"}
 
 
@@ -44,12 +48,14 @@ class Desk:
         self.waiting, self.asked, self.rows, self.version, self.label = deque(), 0, [], 0, None
         # How the program ended, if it did; what it said last of what may be done; what the command in hand takes back.
         self.ended, self.now, self.undone = None, {"enabled": [], "vats": []}, []
+        # The version of which it was told that it is too much to be shown.
+        self.unshown = None
         self.own = {each.__name__: each for each in (self.help, self.save, self.load, self.labels, self.stop)}
         session.own_words = tuple(self.own)
 
-    def type(self, text, is_whole=True):
-        """Takes what was typed: one command or several, each with its lines. Where that is not known to be whole and the last
-        command wants more lines, nothing is taken, and what they are is told."""
+    def type(self, text, is_whole=True, files=ANYWHERE):
+        """Takes what was typed: one command or several, each with its lines; `files` are those that they may name. Where that is not
+        known to be whole and the last command wants more lines, nothing is taken, and what they are is told."""
         lines, taken, wanted = deque(line.removesuffix("\r") for line in text.split("\n")), [], []
 
         def more(what):
@@ -60,7 +66,7 @@ class Desk:
         while lines:
             line = lines.popleft()
             if is_command(line):
-                taken.append(self.read(line, more))
+                taken.append(self.read(line, more, files))
         if wanted and not is_whole:
             return wanted[0]
         self.waiting.extend(taken)
@@ -72,14 +78,15 @@ class Desk:
         """The commands of the workbench and of its program, by their first words."""
         return {**usages_in(OWN), **self.session.usages}
 
-    def read(self, line, more):
+    def read(self, line, more, files):
         """What a line begins: a command of the program, one of the workbench, or a fault."""
         words = words_of(line) or [""]
         if words[0] in self.own and words[0] not in self.session.usages:
-            return functools.partial(self.own[words[0]], " ".join(words[1:]))
+            named = [files] if words[0] in NAMING_A_FILE else []
+            return functools.partial(self.own[words[0]], " ".join(words[1:]), *named)
         try:
-            return typed(line, more)
-        except NotTyped as fault:
+            return typed(line, more, files)
+        except (NotTyped, FileFault) as fault:
             return functools.partial(self.tell, [line], [str(fault)], is_fault=True)
 
     def advance(self, seconds=SLICE):
@@ -136,8 +143,8 @@ class Desk:
             told.append(f"${label} stands for nothing: the reply names no event, or several")
         if refusal:
             told += [in_words(refusal) or "A refusal.", *pointed(answered.command, refusal)]
-            told += [] if self.waiting else advice(self.session, answered.command, refusal)
-        reply = [*answered.reply[:MOST_LINES]]
+            told += self.advice(answered.command, refusal)
+        reply = [line if len(line) <= LONGEST_LINE else f"{line[:LONGEST_LINE]} .." for line in answered.reply[:MOST_LINES]]
         if len(answered.reply) > MOST_LINES:
             told.append(f"{len(answered.reply) - MOST_LINES:,} more lines were replied; they are not shown here")
         marks = [word for word in refusal.arguments if word[:1] == "e" and word[1:].isdigit()] if refusal else []
@@ -146,12 +153,20 @@ class Desk:
                           "marks": marks, "undone": undone, "did": self.done_by(answered)})
         self.label, self.undone = None, []
 
+    def advice(self, command, refusal):
+        """What helps behind a refusal; nothing amid other commands, or where that takes too much."""
+        with contextlib.suppress(TooMuch):
+            return [] if self.waiting else advice(self.session, command, refusal)
+        return []
+
     def done_by(self, answered):
         """What the events of a reply were that its command does not name; nothing in a long session, or amid other commands."""
         made = events_in(answered.reply)[:MOST_LINES]
         if answered.command.word not in DOING or not made or self.waiting or self.session.places.count > MOST_LOOKED_AT:
             return {}
-        return {event.name: " ".join((event.kind, *event.arguments)) for event in self.session.events() if event.name in made}
+        with contextlib.suppress(TooMuch):
+            return {event.name: " ".join((event.kind, *event.arguments)) for event in self.session.events() if event.name in made}
+        return {}
 
     def tell(self, lines, told, is_fault=False):
         """Adds what the workbench itself says."""
@@ -196,22 +211,23 @@ class Desk:
     def labels(self, _):
         self.tell(["labels"], [f"${name} {event}" for name, event in self.session.labels.items()] or ["there is no label"])
 
-    def save(self, rest):
-        path = Path(rest).expanduser()
+    def save(self, rest, files=ANYWHERE):
         try:
-            with open(path, "xb") as file:
-                file.write(self.saved())
+            write(files.to_write(rest)[0], rest, self.saved())
             self.tell([f"save {rest}"], [f"the commands are in {rest}: `{RUN} {rest}` does them again"])
-        except OSError as fault:
-            self.tell([f"save {rest}"], [f"cannot write {rest or 'a file without a name'}: {fault.strerror}"], is_fault=True)
+        except FileFault as fault:
+            self.tell([f"save {rest}"], [str(fault)], is_fault=True)
 
-    def load(self, rest):
+    def load(self, rest, files=ANYWHERE):
+        """Does the commands of a file before those that wait."""
         try:
-            text = text_in(rest)
-        except NotTyped as fault:
+            data, of_file = files.load(rest)
+        except FileFault as fault:
             self.tell([f"load {rest}"], [str(fault)], is_fault=True)
-        else:
-            self.type(text)
+            return
+        waiting, self.waiting = self.waiting, deque()
+        self.type(data.decode(errors="surrogateescape"), files=of_file)
+        self.waiting.extend(waiting)
 
     def stop(self, _):
         """Ends the command that is at work, and forgets those that wait."""
@@ -229,15 +245,30 @@ class Desk:
         """The commands so far that were not refused, as the program takes them."""
         return "".join(map(written, self.session.accepted())).encode(errors="surrogateescape")
 
+    def look(self):
+        """Sees what may be done now; what takes its time is heard later, and what is too much is told."""
+        try:
+            world = read_world(self.session.ask("show", SLICE))
+            enabled = [(line, world.messages.get(line.split()[1], ("", ""))[1]) for line in self.session.enabled()]
+            self.now = {"enabled": enabled, "vats": list(world.vats)}
+        except TooMuch as fault:
+            if self.unshown != self.version:
+                self.unshown = self.version
+                self.tell([], [f"What there is now cannot be shown: {fault}."], is_fault=True)
+        except Stopped:
+            pass
+
+    def at_hand(self):
+        """The command or the question that the program is at."""
+        under_way = self.session.under_way
+        return under_way.line if under_way else self.session.question
+
     def state(self, since=0):
         """What the page has to know now, with the rows of the transcript behind so many."""
         if self.ended is None and not self.is_at_work:
-            world = self.session.world()
-            enabled = [(line, world.messages.get(line.split()[1], ("", ""))[1]) for line in self.session.enabled()]
-            self.now = {"enabled": enabled, "vats": list(world.vats)}
-        under_way = self.session.under_way
+            self.look()
         return {
             **self.now, "version": self.version, "rows": self.rows[since:], "count": len(self.rows), "ended": self.ended,
-            "busy": under_way.line if under_way else None, "asked": self.asked, "waiting": len(self.waiting),
-            "commands": len(self.session.accepted()), "about": self.about,
+            "busy": self.at_hand(), "asked": self.asked, "waiting": len(self.waiting),
+            "commands": len(self.session.answered) - self.session.refusals, "about": self.about,
         }

@@ -9,9 +9,10 @@ from http.server import BaseHTTPRequestHandler, ThreadingHTTPServer
 from pathlib import Path
 from urllib.parse import parse_qsl, urlsplit
 
-from conversation.history import keep, kept_lines
+from conversation.files import NOWHERE
+from conversation.history import NotKept, keep, kept_lines
 from conversation.journal import JournalFault
-from conversation.program import Ended, Stopped
+from conversation.program import Ended, Stopped, TooMuch
 
 from .desk import Refused
 from .view import View
@@ -91,7 +92,8 @@ def do(bench, words):
         return desk.stop("")
     more = desk.type(text, words.get("whole", True))
     if more is None and words.get("kept"):
-        keep(text)
+        with contextlib.suppress(NotKept):
+            keep(text)
     desk.advance()
     return {"more": more}
 
@@ -100,8 +102,16 @@ def load(bench, words):
     """Does the commands of a file, in a session of their own."""
     text = text_of(words)
     bench.desk.clear()
-    bench.desk.type(text)
+    bench.desk.type(text, files=NOWHERE)
     bench.desk.advance()
+
+
+def history(bench, words):
+    """The lines that were typed before."""
+    try:
+        return kept_lines()
+    except NotKept:
+        return []
 
 
 def picture_of(bench, words):
@@ -123,7 +133,7 @@ READ = {
     "why": lambda bench, words: bench.view.why(named(words, "first"), named(words, "second")),
     "told": lambda bench, words: bench.view.told_of(named(words)),
     "words": lambda bench, words: bench.view.words_for(words["before"], words["text"]),
-    "history": lambda bench, words: kept_lines(),
+    "history": history,
 }
 DONE = {
     "do": do,
@@ -153,8 +163,9 @@ class Handler(BaseHTTPRequestHandler):
         except Forbidden as fault:
             self.close_connection = True
             status, kind, body = HTTPStatus.FORBIDDEN, "text/plain", str(fault).encode()
-        except (Refused, Stopped, JournalFault) as fault:
-            status, kind, body = HTTPStatus.CONFLICT, "application/json", json.dumps({"fault": str(fault)}).encode()
+        except (Refused, Stopped, JournalFault, TooMuch, MemoryError) as fault:
+            told = str(fault) or "There is not memory enough for this."
+            status, kind, body = HTTPStatus.CONFLICT, "application/json", json.dumps({"fault": told}).encode()
         except Ended as ended:
             self.server.desk.end(ended)
             told = {"fault": "The program has ended."}

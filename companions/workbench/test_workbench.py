@@ -140,7 +140,7 @@ class Doors(Served):
         self.assertEqual(self.status(site="same-site"), 403)
         self.assertEqual(self.read("state")["commands"], 0)
         self.assertEqual(self.post(origin=self.server.origin, kind="application/json"), 200)
-        self.assertEqual(self.read("state")["commands"], 1)
+        self.assertEqual(self.whole(self.done("wait"))["commands"], 1)
 
     def test_what_a_form_of_another_page_can_send(self):
         for kind in ("text/plain", "application/x-www-form-urlencoded", "multipart/form-data"):
@@ -286,6 +286,45 @@ class Sessions(Served):
         file.write_text(THREE)
         self.assertEqual(self.do(f"load {file}")["commands"], 4)
 
+    def test_a_session_that_is_sent_names_no_files(self):
+        file = self.folder / "script"
+        file.write_text("7\n")
+        lines = [f"save {self.folder}/made", f"save {file}", f"load {file}", f"vat a () @{file}", f"ask a @{file}", "vat a () 0"]
+        state = self.whole(self.done("load", text="\n".join(lines)))
+        self.assertEqual([row["code"] for row in state["rows"]], ["fault"] * 5 + [None])
+        self.assertIn("commands that were sent to the workbench name no files", state["rows"][0]["told"][0])
+        self.assertEqual((file.read_text(), (self.folder / "made").exists()), ("7\n", False))
+
+    def test_a_loaded_file_names_nothing_outside_of_its_folder(self):
+        inner = self.folder / "inner"
+        inner.mkdir()
+        (inner / "next").write_text("vat a () @script\n")
+        (inner / "script").write_text("7\n")
+        (inner / "session").write_text("save ../made\nload next\nload session\nload /dev/zero\nstep\nsave made\n")
+        rows = self.do(f"load {inner}/session\nshow")["rows"]
+        self.assertEqual([row["lines"][0].split()[0] for row in rows], ["save", "vat", "load", "load", "step", "save", "show"])
+        self.assertEqual([row["code"] for row in rows], ["fault", None, "fault", "fault", None, None, None])
+        self.assertEqual((inner / "made").read_text(), "vat a () 1\n7\nstep\n")
+        self.assertFalse((self.folder / "made").exists())
+
+    def test_a_reply_that_cannot_be_looked_at(self):
+        with unittest.mock.patch.multiple("conversation.program", MOST_KEPT=400, LAST_KEPT=100):
+            state = self.do("vat a () 1\n\"" + "x" * 2_000 + "\"\nrun 1")
+            self.assertEqual((state["busy"], state["rows"][-2]["reply"][0][:12]), (None, "ok e2 value "))
+            self.assertIn("the reply to `show` is too long to be looked at", state["rows"][-1]["told"][0])
+            self.assertIn("too long to be looked at", self.read("picture")["fault"])
+            self.assertEqual(self.read("state", since=len(state["rows"]))["rows"], [])
+        self.assertEqual(self.do("undo-cone e1")["vats"], [])
+
+    def test_want_of_memory_is_told(self):
+        with unittest.mock.patch.object(self.server.view, "picture", side_effect=MemoryError):
+            self.assertEqual(self.read("picture"), {"fault": "There is not memory enough for this."})
+
+    def test_what_workers_did_is_saved(self):
+        self.do("vat a () 0\nask a 7\nwork 1 9")
+        _, saved = self.ask("GET", f"/{self.server.token}/session.evats")
+        self.assertEqual(saved, "vat a () 0\nask a 7\nturn e1.m0\nturn e2.m0\n")
+
     def test_help(self):
         rows = self.do("help\nhelp undo\nhelp B15\nstop")["rows"]
         self.assertIn("  stop ", " ".join(rows[0]["told"]))
@@ -347,6 +386,24 @@ class Busy(Served):
             self.assertEqual((state["busy"], state["waiting"], state["commands"]), (None, 0, 0))
             self.assertEqual(state["rows"][-1]["told"], ["`run 1000` was ended: all is as before it."])
             self.assertEqual(self.done("do", text="run 1000")["busy"], "run 1000")
+
+
+class Slow(Served):
+    """A program that takes long to show what there is."""
+
+    def program_words(self):
+        path = self.folder / "slow"
+        path.write_text(SLOW.replace("run*) sleep 60", "show) sleep 3; echo vat a e1"))
+        path.chmod(0o755)
+        return [str(path)]
+
+    def test_what_takes_long_to_be_shown_is_heard_later(self):
+        state, seen = self.done("do", text="enabled"), []
+        while state["busy"] is not None:
+            seen.append(state["busy"])
+            state = self.done("wait")
+        self.assertIn("show", seen)
+        self.assertEqual((state["rows"][0]["reply"], state["vats"]), (["enabled 0"], ["a"]))
 
 
 class Recorded(Served):
