@@ -18,6 +18,7 @@ from pathlib import Path
 
 from .builds import Build, hold, take_at_once, text_of, unproved_build, write_whole
 from .crates import PROGRAM, Fault
+from .kit import KIT
 from .modules import write_as_one
 from .processes import Interrupted, interruptions
 from .unproved import Workshop, compile_well, read_module
@@ -110,7 +111,9 @@ def begin(root, prepare=lambda folder: None):
         prepare(folder_of(root))
         words = [sys.executable, "-I", "-S", START, __name__, root, str(lock.fileno())]
         nothing = dict.fromkeys(("stdin", "stdout", "stderr"), subprocess.DEVNULL)
-        process = subprocess.Popen(words, start_new_session=True, pass_fds=[lock.fileno()], cwd="/", **nothing)
+        # It works elsewhere, and where the kit is may have been told from here.
+        how = {"cwd": "/", "env": {**os.environ, "EVATS_KIT": str(KIT)}, "pass_fds": [lock.fileno()], "start_new_session": True}
+        process = subprocess.Popen(words, **how, **nothing)
         sign(lock, process.pid)
         return process.pid
 
