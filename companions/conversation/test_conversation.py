@@ -527,8 +527,8 @@ class Words(unittest.TestCase):
 
     def test_help_leaves_out_what_is_so_for_another_command(self):
         usages = usages_in(help_of(PROGRAM))
-        self.assertIn("  no B12 NoEvent E: E is not in the journal; the least such E by number", help_on("undo", usages))
-        self.assertIn("E is undone; the first such E in the journal, for settle up to the position", " ".join(help_on("settle", usages)))
+        self.assertIn("  no B12 NoEvent E: E is not in the journal; of several, the least by number", help_on("undo", usages))
+        self.assertIn("E is undone; of several, the first in the journal, for settle the first up to the position", " ".join(help_on("settle", usages)))
 
 
 class Helping(unittest.TestCase):
