@@ -3,7 +3,8 @@ import json
 import shutil
 import subprocess
 
-SECONDS = 60
+# It takes some seconds of a core, of which a loaded machine may give little.
+SECONDS = 600
 SCRIPT = """\
 set nocompatible encoding=utf-8 runtimepath^={editors}/vim synmaxcol=0
 filetype plugin on
