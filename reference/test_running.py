@@ -110,6 +110,8 @@ class Scripts(unittest.TestCase):
     def test_what_a_program_had_said_is_told(self):
         self.expect({"hangs 2": "n := n .*: '' and not 'ok e3 e3.m0.n'(.|\n)*and had said 'ok e1 e1.m0.nok e2 value 2.n'"}, TALK)
 
+    # On a machine with much else to do each try takes long.
+    @patch.object(running, "SHORTENING", 1_000)
     def test_a_session_that_differs_is_made_short(self):
         said = told(COMPARE, "--seconds", "0.1", FAKE, fault="complains 2")[1]
         self.assertRegex(said, r"^\n--budget [0-9]+\n([^\n]*\n){2,9}\nstandard error: oh")
