@@ -5,7 +5,7 @@ from unittest.mock import patch
 
 import running
 from mutating import MOST_STEPS, Mutated, Mutator, harmless, mutated
-from running import bytes_of, shorter, side_by_side, smallest, text_of
+from running import bytes_of, shorter, smallest, text_of
 from test_running import ALL, FAKE, WAITS, told
 
 MUTATE = ["compare", "--mutate", "--seconds", "0.5"]
@@ -77,11 +77,6 @@ class Changes(unittest.TestCase):
     def test_what_the_interpreter_cannot_do_is_told(self):
         with patch("commands.Engine.command", side_effect=ZeroDivisionError("oh")):
             self.assertIn("ZeroDivisionError('oh')", Mutated(10, ["show"]).replies[0])
-
-
-class Jobs(unittest.TestCase):
-    def test_each_has_its_number(self):
-        self.assertEqual([side_by_side(count, lambda number: number * 2) for count in (1, 3)], [[0], [0, 2, 4]])
 
 
 if __name__ == "__main__":
