@@ -138,7 +138,8 @@ class Runs(unittest.TestCase):
     def test_controls_can_be_seen_at_a_terminal(self):
         out = self.folder / "out.svg"
         told, status = self.run_at_a_terminal("--out", out, self.file("\x1b[31m \x9b\u202e\n"))
-        self.assertEqual((told, status), ("causes: 1 command was refused, `\\u{1b}[31m \\u{9b}\\u{202e}`: no S1 UnknownCommand\r\n", 0))
+        wanted = "causes: 1 command was refused, `\\u{1b}[31m \\u{9b}\\u{202e}`: no S1 UnknownCommand\r\n"
+        self.assertEqual((told, status), (wanted, 0))
         self.assertIn("cannot read \\u{1b}[31m: No such", self.run_at_a_terminal("\x1b[31m")[0])
         self.assertIn("unrecognized arguments: \\u{1b}[31m", self.run_at_a_terminal("a", "\x1b[31m")[0])
 

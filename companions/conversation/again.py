@@ -68,8 +68,8 @@ def new_name(word, names):
 
 
 def commands_again(answered):
-    """The commands that do a session again. There events have names one after another, but with workers a name may be left out, or be
-    drawn before one whose event comes first."""
+    """The commands that do a session again. There events have names one after another, but with workers a name may be left
+    out, or be drawn before one whose event comes first."""
     names, commands = {}, []
     for step in (step for each in answered for step in each.accepted):
         commands.append(renamed(step.command, names))

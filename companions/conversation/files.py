@@ -52,7 +52,7 @@ def bytes_in(path, word):
 
 
 def write(path, word, data, is_over=False):
-    """Makes a file of these bytes; where that is agreed on, over one that is there. A new one that cannot be written whole goes."""
+    """Makes a file of these bytes, or writes over one where that is agreed on. A new one that cannot be written whole goes."""
     number = opened("write", path, word, os.O_WRONLY | (0 if is_over else os.O_CREAT | os.O_EXCL))
     try:
         with open(number, "wb") as file:
@@ -88,12 +88,12 @@ class Reach:
         if self.bounds is None:
             raise FileFault(f"{word} is left alone: commands that were sent to the workbench name no files")
         if not path.is_relative_to(self.bounds):
-            raise FileFault(f"{word} is left alone: it is outside of {self.bounds}, and a loaded file names just what is in its folder")
+            raise FileFault(f"{word} is left alone: it is outside of {self.bounds}, the folder of the file that names it")
         return path
 
     def to_write(self, word):
-        """Where a file stands that is to be written, and whether it is there. Hidden files settle how a machine works: none is made
-        by a file that is loaded."""
+        """Where a file stands that is to be written, and whether it is there. Hidden files settle how a machine works: a file
+        that is loaded makes none."""
         path = self.path_of(word)
         if self.loading and any(part.startswith(".") for part in path.relative_to(self.bounds).parts):
             raise FileFault(f"{word} is left alone: a loaded file writes nothing that is hidden")

@@ -45,6 +45,10 @@ def help_of(program, seconds=SECONDS):
         return ""
 
 
+def lines_in(heard):
+    return tuple(heard.decode(errors="replace").split("\n")[:-1])
+
+
 class Program:
     """The program, in a process group of its own.
 
@@ -113,9 +117,13 @@ class Program:
             self.heard += piece
             self.leave_out()
         del self.heard[-len(self.mark):]
-        reply = self.heard.decode(errors="replace")
-        self.heard, self.mark = bytearray(), None
-        return tuple(reply.split("\n")[:-1])
+        heard, self.heard, self.mark = self.heard, bytearray(), None
+        try:
+            return lines_in(heard)
+        except MemoryError:
+            last = heard[heard.rfind(b"\n", 0, -1) + 1:]
+            self.left_out += len(heard) - len(last)
+            return lines_in(last)
 
     def leave_out(self):
         """Leaves out the midst of a reply that is too long."""

@@ -81,7 +81,8 @@ class Session:
         return self.catch_up(seconds)
 
     def catch_up(self, seconds=None):
-        """Hears the reply that is still to come, if there is one, and notes it with its command or its question; gives the former."""
+        """Hears the reply that is still to come, if there is one, and notes it with its command, and gives both; or with its
+        question."""
         if not self.program.is_busy:
             return None
         reply = self.program.hear(self.stopper, seconds)

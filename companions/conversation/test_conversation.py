@@ -106,6 +106,11 @@ work 4 3
 ask bob 1
 work 4 100
 """)
+# One whose replies are long.
+LONG = """\
+for line in sys.stdin:
+    print("no B12 NoEvent " + line[5:] if line[:4] == "cone" else "x\\n" * 9999 + "last\\n", end="", flush=True)
+"""
 VARIABLES = """\
 vat a () 2
 var red := 1
@@ -355,9 +360,8 @@ class Programs(unittest.TestCase):
             os.close(writing)
 
     def test_the_midst_of_a_reply_that_is_too_long_is_left_out(self):
-        body = 'for line in sys.stdin:\n    print("no B12 NoEvent " + line[5:] if line[:4] == "cone" else "x\\n" * 9999 + "last\\n", end="", flush=True)'
         with unittest.mock.patch.multiple("conversation.program", MOST_KEPT=4_000, LAST_KEPT=1_000):
-            with Program([stub(self.folder, body)]) as program:
+            with Program([stub(self.folder, LONG)]) as program:
                 reply = program.reply(["long"])
                 self.assertEqual((reply[0], reply[-1], program.left_out > 10_000, len(reply) < 4_000), ("x", "last", True, True))
                 self.assertEqual((program.reply(["cone e7"]), program.left_out), (("no B12 NoEvent e7",), 0))
@@ -366,6 +370,14 @@ class Programs(unittest.TestCase):
                     with self.assertRaises(TooMuch):
                         session.ask("show")
                 self.assertEqual(session.give(Command("long")).reply[-1], "last")
+
+    def test_where_there_is_no_memory_for_a_reply_its_end_stays(self):
+        with Program([PROGRAM]) as program:
+            program.reply(["vat a () 0"])
+            with unittest.mock.patch("conversation.program.lines_in", side_effect=[MemoryError, ("last",)]) as lines_in:
+                self.assertEqual(program.reply(["show"]), ("last",))
+            self.assertEqual((bytes(lines_in.call_args.args[0]), program.left_out), (b"msg e1.m0 at a\n", len("vat a e1\n")))
+            self.assertEqual(program.reply(["enabled"])[0], "enabled 1")
 
     def test_how_a_program_ends(self):
         endings = {"sys.exit('no room')": "it ended with 1: no room", "sys.exit(2)": "it ended with 2",
@@ -451,7 +463,8 @@ class Again(unittest.TestCase):
         return Answered(Command(line), ("ok work 1",), tuple(Step(Command(each), (event,)) for each, event in steps))
 
     def test_what_was_refused_is_left_out(self):
-        refused, run = Answered(Command("undo e9"), ("no B12 NoEvent e9",)), Answered(Command("run 9"), ("ok e1", "ok e2 value 1", "no B20 NoMemory"))
+        refused = Answered(Command("undo e9"), ("no B12 NoEvent e9",))
+        run = Answered(Command("run 9"), ("ok e1", "ok e2 value 1", "no B20 NoMemory"))
         self.assertEqual(self.again(refused, run, Answered(Command("show"), ())), ["run 2", "show"])
 
     def test_events_have_the_names_that_they_have_then(self):

@@ -17,7 +17,7 @@ def decoded(line):
 
 
 def line_of(stream):
-    """The next line of a stream, or nothing at its end; of one that is longer than the program reads, more than that is left out."""
+    """The next line of a stream, or nothing at its end; of a line that is longer than the program reads, the rest is left out."""
     line = rest = stream.readline(MOST_LINE + 2)
     while rest and not rest.endswith(b"\n"):
         rest = stream.readline(MOST_LINE)

@@ -69,8 +69,8 @@ class Talk:
         return line is not None
 
     def attempt(self, act):
-        """Does something, and gives what it does; tells what is wrong with it. Control-C drops it, or the whole file that is being
-        loaded."""
+        """Does something, and gives what it gives; tells what is wrong with it. Control-C drops it, or the whole file that is
+        being loaded."""
         try:
             return act()
         except KeyboardInterrupt:
@@ -136,7 +136,10 @@ class Talk:
 
     def answer(self, answered):
         """Shows a reply, and tells what was done, or what a refusal means and what helps next."""
+        left_out = self.session.program.left_out
         self.console.say(answered.reply)
+        if left_out:
+            self.fault(f"the reply was too long: {left_out:,} bytes in its midst were left out")
         self.name_event(answered)
         self.seen.update(made := events_in(answered.reply))
         if not self.console.is_terminal:

@@ -34,8 +34,8 @@ def interruptible(handler=signal.default_int_handler):
 
 
 class Keys:
-    """What comes from the keys of a terminal while no line is wanted: it waits as it is. The system itself would cut it to lines, lose
-    what is longer than it likes, and show it at once."""
+    """What comes from the keys of a terminal while no line is wanted: it waits as it is. The system itself would cut it to lines,
+    lose what is longer than it likes, and show it at once."""
 
     def __init__(self, number):
         self.number, self.modes = number, termios.tcgetattr(number)
@@ -69,7 +69,7 @@ class Keys:
 
     @property
     def are_pasted(self):
-        """Whether what is being read comes faster than anybody types: more than another tab or the line's end is there already."""
+        """Whether what is read comes faster than anybody types: more than another tab or the line's end is there already."""
         count = array.array("i", [0])
         fcntl.ioctl(self.number, termios.FIONREAD, count)
         return count[0] > 1
@@ -189,7 +189,7 @@ class Terminal:
         self.tell([text])
 
     def agrees(self, question):
-        """Whether a line says so that is typed once the question is to be seen; what was typed or pasted before stays what it is."""
+        """Whether a line says so that is typed once the question is seen; what was typed or pasted before stays as it is."""
         *lines, begun = (self.begun + self.keys.taken()).split("\n")
         self.begun = ""
         self.pasted.extend(lines)

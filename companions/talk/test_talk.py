@@ -200,7 +200,8 @@ class Terminals(Case):
         person.says("three", "heard three\n> ")
 
     def test_controls_can_be_seen(self):
-        person = self.person(self.file("controls", 'vat a () 2\nvar n := "\x1b]0;t\x07\x9b"\nthrow("\u202e\x7f")\nrun 1\n\x1b[31m\n'))
+        script = 'var n := "\x1b]0;t\x07\x9b"\nthrow("\u202e\x7f")\n'
+        person = self.person(self.file("controls", f"vat a () 2\n{script}run 1\n\x1b[31m\n"))
         person.sees('. var n := "\\u{1b}]0;t\\u{7}\\u{9b}"\n. throw("\\u{202e}\\u{7f}")\n')
         person.sees('ok e2 problem "\\u{202e}\\u{7f}"\n')
         person.sees("> \\u{1b}[31m\nno S1 UnknownCommand\n")
@@ -353,7 +354,7 @@ class Pipes(Case):
 
     def test_a_loaded_file_names_nothing_outside_of_its_folder(self):
         inner = self.nested()
-        named = ["../outside", str(self.folder / "outside"), "link", "away/outside", "deeper/../../outside", "~/outside", "~nobody/x"]
+        named = ["../outside", str(self.folder / "outside"), "link", "away/outside", "deeper/../../outside", "~/outside"]
         lines = [f"{word}{name}" for name in named for word in ("save ", "load ", "vat a () @", "ask a @")]
         (inner / "session").write_text("\n".join([*lines, "vat a () 0", ""]))
         faults = self.faults(self.run_talk("", "inner/session", env={**os.environ, "HOME": str(self.folder)}))

@@ -54,8 +54,8 @@ class Desk:
         session.own_words = tuple(self.own)
 
     def type(self, text, is_whole=True, files=ANYWHERE):
-        """Takes what was typed: one command or several, each with its lines; `files` are those that they may name. Where that is not
-        known to be whole and the last command wants more lines, nothing is taken, and what they are is told."""
+        """Takes what was typed: one command or several, each with its lines; `files` are those that they may name. Where it may
+        be cut off and the last command wants more lines, nothing is taken, and what they are is told."""
         lines, taken, wanted = deque(line.removesuffix("\r") for line in text.split("\n")), [], []
 
         def more(what):

@@ -27,7 +27,8 @@ export function draw(tag, attributes = {}, ...children) {
 
 export const byId = (id) => document.getElementById(id);
 
-// A sentence in which each event, message, object, promise and variable is a link, and each command between backticks can be taken.
+// A sentence in which each event, message, object, promise and variable is a link, and each command between backticks one that
+// can be taken.
 export function linked(text) {
   const parts = String(text).split("`"), nodes = [];
   let place = 0;
