@@ -5,6 +5,8 @@ import tempfile
 from dataclasses import dataclass
 from pathlib import Path
 
+from conversation.visible import lines_for_stream
+
 from . import kit, well
 from .builds import locked, proved_build, quick_build, unproved_build
 from .crates import PROGRAM, ROOT, Fault
@@ -32,7 +34,7 @@ class Choice:
 
 
 def say(text):
-    print(text, file=sys.stderr, flush=True)
+    print(lines_for_stream(str(text), sys.stderr), file=sys.stderr, flush=True)
 
 
 @contextlib.contextmanager

@@ -26,6 +26,11 @@ def for_stream(line, stream):
     return visible(line) if stream.isatty() else line
 
 
+def lines_for_stream(text, stream):
+    """The lines of a text, each as it is written to a stream."""
+    return "\n".join(for_stream(line, stream) for line in text.split("\n"))
+
+
 class Seen(io.TextIOWrapper):
     """Standard error at a terminal, in whose lines each control can be seen, whoever writes them."""
 

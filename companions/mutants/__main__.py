@@ -14,6 +14,7 @@ from pathlib import Path
 from building.crates import ROOT, Fault, read_crates
 from building.machine import processors
 from building.processes import Interrupted, interruptions
+from building.programs import say
 from building.progress import Display
 from building.proving import rt
 
@@ -102,7 +103,7 @@ def main(words):
         with interruptions():
             return tell_all(try_all(ROOT, crates, wanted, given, Display(sys.stderr)))
     except (Fault, BadEdit, OSError) as fault:
-        print(f"mutants: {fault}", file=sys.stderr)
+        say(f"mutants: {fault}")
         return 2
     except Interrupted as interrupted:
         print("mutants: interrupted; what was tried is kept, and the same command goes on", file=sys.stderr)
