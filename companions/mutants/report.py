@@ -64,8 +64,10 @@ def complaints(edit, log, is_alone):
     found = []
     for line in log.splitlines():
         at = AT.match(line)
-        own = at and any(it.has(at[1], int(at[2])) for it in edit.functions)
-        if at and (own or at[1].startswith(proofs) or is_alone):
+        # A note on a definition is no complaint.
+        if not at or at[3].startswith("note: "):
+            continue
+        if is_alone or at[1].startswith(proofs) or any(it.has(at[1], int(at[2])) for it in edit.functions):
             found.append(line.removeprefix("so far: ")[:200])
     return found
 
@@ -79,10 +81,11 @@ def error_in(edit, log):
     return ""
 
 
-def refusal(said, what):
-    """The verdict on an edit that is refused, where this is said of its functions, and first complained of."""
+def refusal(complaint, what):
+    """The verdict on an edit that is refused, where this is complained of first, if anything is, and this is said of its functions."""
+    said = complaint or what[0]
     fault = next((fault for words, fault in FAULTS if re.search(words, said)), None)
-    return Verdict(fault, said, not said and any("it calls `" in it or "of this cycle" in it for it in what))
+    return Verdict(fault, said[:200], not complaint and any("it calls `" in it or "of this cycle" in it for it in what))
 
 
 def verdict_on(edit, crate, ran, is_alone):
@@ -91,8 +94,9 @@ def verdict_on(edit, crate, ran, is_alone):
         return Verdict(NOT_TRIED, f"the check ended with {ran.status}: {ran.last}")
     said = functions_said(ran.log)
     what = [what for path, what in said.items() if not edit.functions or any(is_of(path, crate, own) for own in edit.paths)]
-    if any(it not in PROVED for it in what):
-        return refusal((complaints(edit, ran.log, is_alone) or [""])[0], what)
+    refused = [it for it in what if it not in PROVED]
+    if refused:
+        return refusal(next(iter(complaints(edit, ran.log, is_alone)), None), refused)
     if what:
         return Verdict(GOT_THROUGH, "it is still proved")
     errors = [line for line in ran.log.splitlines() if "error" in line]

@@ -313,6 +313,12 @@ class Verdicts(unittest.TestCase):
         # Alone it is told by all that the check complains of, as of the proof of a cycle of calls.
         self.assertIn("no", self.verdict("./proofs/+twice/Answers.antt:1:1: error: no\n" + leaning, is_alone=True).said)
 
+    def test_what_is_said_of_a_refusal(self):
+        told = "fn high::twice: no proof: `search` did not prove `returns`\n"
+        self.assertIn("did not prove", self.verdict(told).said)
+        self.assertIn("did not prove", self.verdict("./specs/Two.antt:1:1: note: deriving\n" + told, is_alone=True).said)
+        self.assertIn("it may wrap", self.verdict("fn high::twice: no proof: `search` did not prove `overflow_add`\n").fault)
+
     def test_what_shows_little(self):
         proof = "./proofs/twice/Answers.antt:4:2: error: `twice-returns`: record `Rattle.high` has no field `one`\nfn high::twice: not proved\n"
         self.assertIn("shows little", self.verdict(proof).fault)
