@@ -370,6 +370,7 @@ class Trials(Side):
         report, log = self.tried("less", "one")
         self.assertEqual(log, ["high lib", "high check --only Pair::sum --only twice", "high check --only Pair::sum"])
         self.assertEqual(self.faults(report), {"less": None, "one": GOT_THROUGH})
+        self.assertEqual([round(it.seconds, 3) > 0 for it in report.told["high"]], [True, True])
         self.assertIn("crates/high/mutants.edits: one: got through", self.out.getvalue())
 
     def test_what_does_not_compile_is_left_out(self):
@@ -381,6 +382,14 @@ class Trials(Side):
         report, log = self.tried("of a type", "nowhere")
         self.assertEqual(log[1:], ["high check"])
         self.assertEqual(self.faults(report), {"of a type": None, "nowhere": NOT_COMPILED})
+
+    def test_what_is_told_for_itself_comes_first(self):
+        report, _ = self.tried("one", "less")
+        self.assertEqual([it.mutant.name for it in report.told["high"]], ["less", "one"])
+
+    def test_a_program_is_no_library(self):
+        self.there.write("crates/high/src/main.rt", "fn main() {}\n")
+        self.assertEqual(self.tried("less")[1][0], "high check")
 
     def test_crates_side_by_side(self):
         for name in ("low", "high", "other"):

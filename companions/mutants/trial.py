@@ -5,7 +5,6 @@ import shutil
 from dataclasses import dataclass
 from pathlib import Path
 
-from building.crates import PROGRAM
 from building.rooms import Room
 
 from .edits import BadEdit, changed_together, edit_of, functions_of, groups
@@ -70,7 +69,7 @@ class Trial:
                 yield Told(mutant, Verdict(NOT_COMPILED, str(bad)))
         if not edits:
             return
-        ran = yield ("check" if self.crate == PROGRAM else "lib", *ONE_JOB)
+        ran = yield ("check" if "src/main.rt" in self.sources else "lib", *ONE_JOB)
         if ran.status:
             for edit in edits:
                 yield Told(edit.mutant, Verdict(NOT_TRIED, f"the crate itself is not proved: {ran.last}"))
@@ -92,13 +91,16 @@ class Trial:
             yield from self.each(edits, ran)
 
     def each(self, edits, ran):
-        """Tells what a check says of these edits, each of which was compiled."""
-        for edit in edits:
-            verdict, seconds = verdict_on(edit, self.crate, ran, len(edits) == 1), ran.seconds / len(edits)
-            if verdict.is_open and len(edits) > 1:
+        """Tells what a check says of these edits, each of which was compiled; last of those that are tried alone."""
+        share, is_alone = ran.seconds / len(edits), len(edits) == 1
+        verdicts = [(edit, verdict_on(edit, self.crate, ran, is_alone)) for edit in edits]
+        for edit, verdict in verdicts:
+            if is_alone or not verdict.is_open:
+                yield Told(edit.mutant, verdict, share)
+        for edit, verdict in verdicts:
+            if verdict.is_open and not is_alone:
                 alone = yield from self.check([edit])
-                verdict, seconds = verdict_on(edit, self.crate, alone, True), seconds + alone.seconds
-            yield Told(edit.mutant, verdict, seconds)
+                yield Told(edit.mutant, verdict_on(edit, self.crate, alone, True), share + alone.seconds)
 
     def check(self, edits):
         """A check of these edits together: of their functions alone, or of all where one changes something besides."""
