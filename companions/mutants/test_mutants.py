@@ -77,7 +77,7 @@ MUTANTS = {
 }
 # What `rt` says here: a function is proved unless its source has what no right body has; a crate of a type of 16 bits is not.
 RT = """\
-#!/usr/bin/env python3
+#!/usr/bin/env -S python3 -I -S
 import pathlib, sys
 words = [word for word in sys.argv[1:] if word not in ("--jobs", "1")]
 text = pathlib.Path("src/lib.rt").read_text()
@@ -122,7 +122,7 @@ class Contracts(unittest.TestCase):
 
 
 class Repository:
-    """A repository of three crates, `low` below `high`, and `other`, each with a mutant."""
+    """A folder as a repository, of three crates, `low` below `high`, and `other`, each with a mutant."""
 
     def __init__(self, folder):
         self.root = Path(folder)
@@ -131,8 +131,6 @@ class Repository:
                 self.write(f"crates/{name}/{part}", text)
         self.write("crates.txt", "# lowest first\nlow: std\nhigh may_wait=2: low\nother:\n")
         self.write("HANDLES", "Handles allowed: none.\n")
-        self.git("init", "-q")
-        self.commit()
 
     def write(self, path, text):
         file = self.root / path
@@ -154,6 +152,8 @@ class Since(unittest.TestCase):
         folder = tempfile.TemporaryDirectory()
         self.addCleanup(folder.cleanup)
         self.there = Repository(folder.name)
+        self.there.git("init", "-q")
+        self.there.commit()
 
     def chosen(self):
         return to_be_tried(self.there.root, "HEAD")
