@@ -130,12 +130,12 @@ class Plan:
         return progress.line(len(self.crates) - len(self.left), len(self.crates), list(self.at_work), left)
 
 
-def plan_of(root, crates):
-    """What there is to prove of these crates."""
+def plan_of(root, crates, lanes):
+    """What there is to prove of these crates, so many side by side at most."""
     sums = sums_of(root, crates, CODE_AND_PROOFS)
     sizes = {crate.name: size_of(folder_of(root, crate.name)) for crate in crates}
     left = [crate for crate in crates if crate.name == PROGRAM or not is_proved(root, crate.name, sums[crate.name])]
-    return Plan(root, crates, sums, sizes, left, processors(), free_memory())
+    return Plan(root, crates, sums, sizes, left, lanes, free_memory())
 
 
 def rt():
@@ -209,17 +209,22 @@ def prove_program(plan, display):
     stop_if_refused(plan, PROGRAM)
 
 
-def prove_once(build, display):
-    """Proves what is left, and notes the program where the sources are still the same."""
+def prove_crates(root, crates, lanes, display):
+    """Proves the libraries among these crates, which come lowest first, so many side by side at most, and gives the plan of it."""
     def tell(folder):
         display.clear()
         print(f"another command is at work in {folder}; waiting for it ..", file=display.out, flush=True)
 
-    crates = lowest_first(read_crates(build.root), PROGRAM)
     # As `rt` does, so that no other `rt` works in these folders meanwhile.
-    with locked([folder_of(build.root, crate.name) for crate in crates], tell):
-        plan = plan_of(build.root, crates)
+    with locked([folder_of(root, crate.name) for crate in crates], tell):
+        plan = plan_of(root, crates, lanes)
         prove_libraries(plan, display)
+    return plan
+
+
+def prove_once(build, display):
+    """Proves what is left, and notes the program where the sources are still the same."""
+    plan = prove_crates(build.root, lowest_first(read_crates(build.root), PROGRAM), processors(), display)
     if build.sources() == plan.sums[PROGRAM]:
         prove_program(plan, display)
         if not build.program.exists():

@@ -1,22 +1,22 @@
 """Tries the mutants of crates: each is put in place of the right body, and the prover must refuse it.
 
 Without words those of all crates; with NAME those of these; with --since those of the crates whose files, or a contract
-below them, changed since the revision REV. Those of different functions are tried in one check, over what checks of the
-tree have kept, and crates side by side, as many as memory allows. What came of each is kept at once, by the checksums of
-all that it stands on: a run that was interrupted goes on when it is started again, and --anew tries all. Ends with 1 where
-one got through, could not be tried, or shows little.
+below them, changed since the revision REV. A crate that is not proved here is proved first. Those of different functions
+are tried in one check, over what checks of the tree have kept, and crates side by side, as many as memory allows. What
+came of each is kept at once, by the checksums of all that it stands on: a run that was interrupted goes on when it is
+started again, and --anew tries all. Ends with 1 where one got through, could not be tried, or shows little.
 """
 import argparse
 import sys
 import tempfile
 from pathlib import Path
 
-from building.crates import ROOT, Fault, read_crates
+from building.crates import ROOT, Fault, lowest_first, read_crates
 from building.machine import processors
 from building.processes import Interrupted, interruptions
 from building.programs import say
 from building.progress import Display
-from building.proving import rt
+from building.proving import prove_crates, rt
 
 from .changes import NoSuchRevision, to_be_tried
 from .edits import BadEdit, mutants_of
@@ -58,17 +58,30 @@ def parser():
     return made
 
 
-def try_all(root, crates, wanted, given, display):
-    """Tries the wanted mutants that no earlier run has tried, and reports on all."""
-    report, left = Report(sum(map(len, wanted.values()))), {}
-    results = {name: Results(place_of_results() / name, sum_of(root, crates, name)) for name in wanted}
+def untried(wanted, results, report):
+    """Those of the wanted mutants of which no earlier run told; what one told goes into the report."""
+    left = {}
     for name, mutants in wanted.items():
-        earlier = [] if given.anew else results[name].earlier(mutants)
+        earlier = results[name].earlier(mutants)
         for told in earlier:
             report.add_earlier(name, told)
         known = [told.mutant for told in earlier]
         if len(known) < len(mutants):
             left[name] = [mutant for mutant in mutants if mutant not in known]
+    return left
+
+
+def prove_what_they_stand_on(root, crates, names, jobs, display):
+    """Proves these crates and those below them, where that was not done yet: only then a refusal tells of a mutant."""
+    needed = {crate.name: crate for name in names for crate in lowest_first(crates, name)}
+    prove_crates(root, list(needed.values()), jobs, display)
+
+
+def try_all(root, crates, wanted, given, display):
+    """Tries the wanted mutants that no earlier run has tried, and reports on all."""
+    report = Report(sum(map(len, wanted.values())))
+    results = {name: Results(place_of_results() / name, sum_of(root, crates, name)) for name in wanted}
+    left = wanted if given.anew else untried(wanted, results, report)
 
     def tell(name, told):
         results[name].keep(told)
@@ -79,8 +92,9 @@ def try_all(root, crates, wanted, given, display):
 
     with tempfile.TemporaryDirectory(prefix="evats-mutants-") as rooms:
         try:
-            crew = Crew(root, crates, Path(rooms), given.jobs, tell, rt())
-            crew.try_all(left, lambda at_work: display.show(report.line(at_work)))
+            prove_what_they_stand_on(root, crates, left, given.jobs, display)
+            report.begin()
+            Crew(root, crates, Path(rooms), given.jobs, tell, rt()).try_all(left, lambda at_work: display.show(report.line(at_work)))
         finally:
             display.clear()
     return report

@@ -9,6 +9,7 @@ from building.crates import folder_of, kit_libraries, lowest_first
 from building.machine import free_memory
 from building.processes import ending, start
 from building.proving import PLANNED, held_of_kit, memory_of, size_of
+from building.rooms import remove
 
 from .report import Ran
 from .trial import Told, Trial, furnished
@@ -73,6 +74,7 @@ class Crew:
                 step = next(work.steps)
         except StopIteration:
             self.at_work.remove(work)
+            remove(work.folder)
             return
         work.log = tempfile.TemporaryFile("w+", errors="replace")
         start(processes, [self.rt, *step], folder_of(work.folder, work.name), work.log)

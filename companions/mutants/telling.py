@@ -18,6 +18,10 @@ class Report:
     earlier: int = 0
 
     def __post_init__(self):
+        self.begin()
+
+    def begin(self):
+        """Takes the time from now on."""
         self.begun = self.clock()
 
     def add(self, crate, told):

@@ -2,6 +2,7 @@
 says what `rt` would."""
 import contextlib
 import io
+import itertools
 import os
 import signal
 import subprocess
@@ -13,7 +14,7 @@ from pathlib import Path
 from unittest import mock
 
 from building.crates import read_crates
-from building.progress import Display
+from building.progress import EVERY, Display
 
 from . import side_by_side
 from .__main__ import chosen, parser, tell_all, try_all
@@ -79,10 +80,16 @@ MUTANTS = {
 RT = """\
 #!/usr/bin/env -S python3 -I -S
 import pathlib, sys
-words = [word for word in sys.argv[1:] if word not in ("--jobs", "1")]
+verb, _, _, *words = sys.argv[1:]
+words = [verb, *words]
 text = pathlib.Path("src/lib.rt").read_text()
 with pathlib.Path(__file__).with_name("log").open("a") as log:
     log.write(" ".join([pathlib.Path.cwd().name, *words]) + "\\n")
+if words == ["lib"]:
+    rlib = pathlib.Path("out/rlib")
+    rlib.mkdir(parents=True, exist_ok=True)
+    (rlib / "stamp").write_text("a stamp")
+    sys.exit(0)
 if pathlib.Path(__file__).with_name("killed").exists():
     sys.exit(137)
 if "let y = 1" in text:
@@ -93,7 +100,7 @@ for name in names:
     if wrong[name]:
         print("so far: note: src/lib.rt:15:5: it is not proved that what the function ensures holds (`returns`)")
     is_proved = not wrong[name] and "u16" not in text
-    print(f"fn high::{name}: {'proved' if is_proved else 'not proved'}")
+    print(f"fn {pathlib.Path.cwd().name}::{name}: {'proved' if is_proved else 'not proved'}")
 sys.exit(1 if any(wrong[name] for name in names) or "u16" in text else 0)
 """
 # Tries the mutants of `high` in another repository than this one.
@@ -351,7 +358,7 @@ class Side(unittest.TestCase):
             self.addCleanup(patch.stop)
 
     def tried(self, *names, words=(), crate="high"):
-        """The report on these mutants, and the commands of `rt` that were run for it."""
+        """The report on these mutants, and the checks that were made for it."""
         self.there.write(f"crates/{crate}/mutants.edits", told(*names))
         (self.rt.with_name("log")).write_text("")
         crates = read_crates(self.there.root)
@@ -359,7 +366,7 @@ class Side(unittest.TestCase):
         wanted = chosen(self.there.root, crates, given.names, given.since)
         self.out = io.StringIO()
         report = try_all(self.there.root, crates, wanted, given, Display(self.out))
-        return report, self.rt.with_name("log").read_text().splitlines()
+        return report, [line for line in self.rt.with_name("log").read_text().splitlines() if not line.endswith(" lib")]
 
 
 class Trials(Side):
@@ -368,19 +375,19 @@ class Trials(Side):
 
     def test_different_functions_in_one_check(self):
         report, log = self.tried("less", "one")
-        self.assertEqual(log, ["high lib", "high check --only Pair::sum --only twice", "high check --only Pair::sum"])
+        self.assertEqual(log, ["high check --only Pair::sum --only twice", "high check --only Pair::sum"])
         self.assertEqual(self.faults(report), {"less": None, "one": GOT_THROUGH})
         self.assertEqual([round(it.seconds, 3) > 0 for it in report.told["high"]], [True, True])
         self.assertIn("crates/high/mutants.edits: one: got through", self.out.getvalue())
 
     def test_what_does_not_compile_is_left_out(self):
         report, log = self.tried("one", "broken")
-        self.assertEqual(log[1:], ["high check --only Pair::sum --only twice", "high check --only Pair::sum"])
+        self.assertEqual(log, ["high check --only Pair::sum --only twice", "high check --only Pair::sum"])
         self.assertEqual(self.faults(report), {"one": GOT_THROUGH, "broken": NOT_COMPILED})
 
     def test_what_changes_a_type_takes_a_whole_check(self):
         report, log = self.tried("of a type", "nowhere")
-        self.assertEqual(log[1:], ["high check"])
+        self.assertEqual(log, ["high check"])
         self.assertEqual(self.faults(report), {"of a type": None, "nowhere": NOT_COMPILED})
 
     def test_what_is_told_for_itself_comes_first(self):
@@ -388,8 +395,16 @@ class Trials(Side):
         self.assertEqual([it.mutant.name for it in report.told["high"]], ["less", "one"])
 
     def test_a_program_is_no_library(self):
-        self.there.write("crates/high/src/main.rt", "fn main() {}\n")
-        self.assertEqual(self.tried("less")[1][0], "high check")
+        self.there.write("crates/evats/src/lib.rt", SOURCE)
+        self.there.write("crates/evats/src/main.rt", "fn main() {}\n")
+        self.there.write("crates.txt", "low:\nevats: low\n")
+        self.assertEqual(self.tried("less", crate="evats")[1], ["evats check", "evats check --only twice"])
+
+    def test_what_is_not_proved_here_is_proved_first(self):
+        self.tried("less")
+        self.assertEqual(self.rt.with_name("log").read_text().split("\n")[:2], ["low lib", "high lib"])
+        self.tried("less", "one")
+        self.assertNotIn("low lib", self.rt.with_name("log").read_text())
 
     def test_crates_side_by_side(self):
         for name in ("low", "high", "other"):
@@ -398,8 +413,9 @@ class Trials(Side):
         given = parser().parse_args(["--jobs", "3"])
         wanted = chosen(self.there.root, crates, given.names, given.since)
         shown = io.StringIO()
-        report = try_all(self.there.root, crates, wanted, given, Display(shown))
-        self.assertEqual(sorted(report.told), ["high", "low", "other"])
+        # Each line is a minute behind the last one.
+        report = try_all(self.there.root, crates, wanted, given, Display(shown, itertools.count(step=EVERY).__next__))
+        self.assertEqual({name: [it.verdict.fault for it in of] for name, of in report.told.items()}, dict.fromkeys(("low", "high", "other"), [None]))
         self.assertIn("tried 0 of 3, at work: low high other", shown.getvalue())
 
     def test_the_room_has_what_was_kept(self):
@@ -423,7 +439,7 @@ class Kept(Side):
         report, log = self.tried("less", "one")
         self.assertEqual((log, report.earlier, report.tried), ([], 2, 2))
         self.assertEqual(len(report.faults()), 1)
-        self.assertEqual(len(self.tried("less", "one", words=["--anew"])[1]), 3)
+        self.assertEqual(len(self.tried("less", "one", words=["--anew"])[1]), 2)
 
     def test_a_run_that_was_cut_off_goes_on(self):
         self.rt.with_name("killed").touch()
@@ -431,7 +447,7 @@ class Kept(Side):
         self.assertEqual(report.told["high"][0].verdict.fault, NOT_TRIED)
         self.rt.with_name("killed").unlink()
         self.tried("less")
-        self.assertEqual(self.tried("less", "one")[1], ["high lib", "high check --only Pair::sum"])
+        self.assertEqual(self.tried("less", "one")[1], ["high check --only Pair::sum"])
 
     def test_an_interrupted_run_ends_what_it_started(self):
         self.there.write("crates/high/mutants.edits", told("less"))
@@ -451,7 +467,7 @@ class Kept(Side):
         self.tried("less")
         file = self.at / "cache/evats-mutants/high"
         file.write_text(file.read_text()[:20])
-        self.assertEqual(len(self.tried("less")[1]), 2)
+        self.assertEqual(self.tried("less")[1], ["high check --only twice"])
 
     def test_what_a_verdict_stands_on(self):
         crates, root = read_crates(self.there.root), self.there.root
