@@ -4,6 +4,9 @@ from dataclasses import dataclass
 
 SAID = re.compile(r"(?:fn|impl|struct|enum|trait) (\S+): (.*)")
 AT = re.compile(r"(?:so far: )?(?:note: )?(?:\./)?(\S+?):(\d+):\d+: (.*)")
+# The functions of a cycle of calls have one proof, each goal of which begins with the name of its function.
+CYCLE = re.compile(r"proofs/(?:(.*)/)?\+[^/]+/\w+\.antt$")
+GOAL = re.compile(r"error: `([\w:]+)-")
 BROKEN = re.compile(r"error\[[\w-]+\]: (?:\./)?(\S+?):(\d+):\d+: ")
 PROVED = ("proved", "no holes")
 GOT_THROUGH = "got through"
@@ -58,16 +61,26 @@ def is_of(said, crate, path):
     return own == path or own.startswith((f"{path}::", f"{path}+"))
 
 
+def of_cycle(file, said):
+    """The path of the function of a cycle of calls of which a proof's file complains; nothing where it is no such proof."""
+    cycle, goal = CYCLE.match(file), GOAL.match(said)
+    return "::".join([*(cycle[1] or "").split("/"), goal[1]]).lstrip(":") if cycle and goal else None
+
+
+def is_complaint_of(edit, file, line, said):
+    """Whether what is said there is said of a function of an edit, or of its proof."""
+    if any(it.has(file, line) for it in edit.functions):
+        return True
+    return any(file.startswith(f"proofs/{path.replace('::', '/')}/") or of_cycle(file, said) == path for path in edit.paths)
+
+
 def complaints(edit, log, is_alone):
     """What a log complains of in the functions of an edit, and in their proofs; all that it complains of where the edit was alone."""
-    proofs = tuple(f"proofs/{path.replace('::', '/')}/" for path in edit.paths)
     found = []
     for line in log.splitlines():
         at = AT.match(line)
         # A note on a definition is no complaint.
-        if not at or at[3].startswith("note: "):
-            continue
-        if is_alone or at[1].startswith(proofs) or any(it.has(at[1], int(at[2])) for it in edit.functions):
+        if at and not at[3].startswith("note: ") and (is_alone or is_complaint_of(edit, at[1], int(at[2]), at[3])):
             found.append(line.removeprefix("so far: ")[:200])
     return found
 

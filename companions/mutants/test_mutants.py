@@ -317,8 +317,16 @@ class Verdicts(unittest.TestCase):
         self.assertEqual((self.verdict("fn high::twice: not proved\n").is_open, self.verdict(leaning).is_open), (False, True))
         # What is complained of in the function itself is its own.
         self.assertFalse(self.verdict("src/lib.rt:14:5: no\n" + leaning).is_open)
-        # Alone it is told by all that the check complains of, as of the proof of a cycle of calls.
-        self.assertIn("no", self.verdict("./proofs/+twice/Answers.antt:1:1: error: no\n" + leaning, is_alone=True).said)
+        # Alone it is told by all that the check complains of.
+        self.assertIn("no", self.verdict("./proofs/Lemmas.antt:1:1: error: no\n" + leaning, is_alone=True).said)
+
+    def test_a_cycle_of_calls_has_one_proof(self):
+        leaning = "fn high::a::{}: not proved; it calls `high::a::both`, of this cycle of calls, which is not proved\n"
+        for proof in ("./proofs/a/+both", "./proofs/+both"):
+            goal = "one-returns" if "/a/" in proof else "a::one-returns"
+            log = f"{proof}/Answers.antt:9:5: error: `{goal}`: no\n" + leaning.format("one") + leaning.format("two")
+            self.assertFalse(self.verdict(log, path="a::one").is_open)
+            self.assertTrue(self.verdict(log, path="a::two").is_open)
 
     def test_what_is_said_of_a_refusal(self):
         told = "fn high::twice: no proof: `search` did not prove `returns`\n"
