@@ -49,12 +49,12 @@ def positive(word):
 def parser():
     how = {"formatter_class": argparse.RawDescriptionHelpFormatter, "allow_abbrev": False}
     made = argparse.ArgumentParser(prog=".ci/mutants", description=__doc__, **how)
-    made.add_argument("--since", metavar="REV")
+    made.add_argument("--since", metavar="REV", help="only those of crates that see a change since this revision")
     made.add_argument("--list", action="store_true", help="say which crates would be tried, and try nothing")
     made.add_argument("--anew", action="store_true", help="try also what an earlier run tried")
     jobs = "how many crates at most are tried side by side; without it as many as there are processors"
     made.add_argument("--jobs", metavar="N", type=positive, default=processors(), help=jobs)
-    made.add_argument("names", metavar="NAME", nargs="*")
+    made.add_argument("names", metavar="NAME", nargs="*", help="a crate whose mutants are tried; without it those of all")
     return made
 
 
