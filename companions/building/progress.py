@@ -22,10 +22,14 @@ def duration(seconds):
     return f"about {counted(hours, 'hour')}" + (f" {counted(minutes, 'minute')}" if minutes else "")
 
 
+def few(names):
+    """The first of these names, with dots for the others."""
+    return [*names[:MOST_NAMES], *([".."] if len(names) > MOST_NAMES else [])]
+
+
 def line(proved, whole, at_work, seconds):
     """How far the proofs are: how many crates are proved, which are at work, and how long the rest takes."""
-    names = [*at_work[:MOST_NAMES], *([".."] if len(at_work) > MOST_NAMES else [])]
-    work = f", at work: {' '.join(names)}" if names else ""
+    work = f", at work: {' '.join(few(at_work))}" if at_work else ""
     return f"proved {proved} of {whole}{work}, {duration(seconds)} left"
 
 

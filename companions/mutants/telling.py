@@ -2,7 +2,7 @@
 import time
 from dataclasses import dataclass, field
 
-from building.progress import MOST_NAMES, counted, duration
+from building.progress import counted, duration, few
 
 from .edits import FILE
 
@@ -44,12 +44,11 @@ class Report:
     def line(self, at_work):
         """How far a run is, in a line."""
         faults, now = len(self.faults()), self.tried - self.earlier
-        names = " ".join([*at_work[:MOST_NAMES], *([".."] if len(at_work) > MOST_NAMES else [])])
         left = (self.clock() - self.begun) * (self.whole - self.tried) / now if now else None
         parts = [
             f"tried {self.tried} of {self.whole}",
             f"{faults} to be mended" if faults else "",
-            f"at work: {names}" if names else "",
+            f"at work: {' '.join(few(at_work))}" if at_work else "",
             f"{duration(left)} left" if left is not None else "",
         ]
         return ", ".join(filter(None, parts))

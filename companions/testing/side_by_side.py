@@ -5,7 +5,7 @@ from pathlib import Path
 
 from building.crates import ROOT
 from building.processes import end, ending, start
-from building.progress import MOST_NAMES, Display
+from building.progress import Display, few
 
 from .counting import Count, counted
 
@@ -65,8 +65,7 @@ class Tests:
 
     def line(self):
         """How far they are, in a line."""
-        names = [work.job.name for work in self.at_work]
-        names = [*names[:MOST_NAMES], *([".."] if len(names) > MOST_NAMES else [])]
+        names = few([work.job.name for work in self.at_work])
         waiting = f"; {len(self.waiting)} wait" if self.waiting else ""
         return f"{self.count} so far; at work: {', '.join(names)}{waiting}"
 
