@@ -14,6 +14,8 @@ NOT_COMPILED = "cannot be applied or compiled"
 NOT_TRIED = "was not tried"
 # The statuses with which a check ends that has looked at what it was asked for.
 LOOKED = (0, 1, 3)
+# What is said of a function only where a goal of its own is open.
+OWN_GOAL = "`search` did not prove `"
 # What is said of a refusal that says little of the contract, by what the check says first of it.
 FAULTS = (
     (r"has no field|is not in scope|has no `|was not admitted|record `", "shows little: a proof names what it took away"),
@@ -27,7 +29,7 @@ class Verdict:
 
     fault: str | None
     said: str = ""
-    # A function that is refused may be so for what it calls, which another wrong body of the same check may have changed.
+    # A function of which nothing is complained may be refused for what it calls, or for another one of its cycle of calls.
     leans_on_others: bool = False
 
     @property
@@ -98,7 +100,7 @@ def refusal(complaint, what):
     """The verdict on an edit that is refused, where this is complained of first, if anything is, and this is said of its functions."""
     said = complaint or what[0]
     fault = next((fault for words, fault in FAULTS if re.search(words, said)), None)
-    return Verdict(fault, said[:200], not complaint and any("it calls `" in it or "of this cycle" in it for it in what))
+    return Verdict(fault, said[:200], not complaint and not any(OWN_GOAL in it for it in what))
 
 
 def verdict_on(edit, crate, ran, is_alone):

@@ -314,7 +314,9 @@ class Verdicts(unittest.TestCase):
 
     def test_a_refusal_that_may_be_anothers(self):
         leaning = "fn high::twice: not proved; it calls `high::sum`, which is not proved\n"
-        self.assertEqual((self.verdict("fn high::twice: not proved\n").is_open, self.verdict(leaning).is_open), (False, True))
+        own = "fn high::twice: no proof: expected answers; `search` did not prove `returns`\n"
+        cycle = "fn high::twice: not proved\n"
+        self.assertEqual([self.verdict(log).is_open for log in (leaning, own, cycle)], [True, False, True])
         # What is complained of in the function itself is its own.
         self.assertFalse(self.verdict("src/lib.rt:14:5: no\n" + leaning).is_open)
         # Alone it is told by all that the check complains of.
